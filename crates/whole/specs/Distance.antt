@@ -1,0 +1,60 @@
+-- How far one whole number lies after another, and the number half way between them. Assumes nothing.
+use mathlib.Core.Path.{_≡_, refl, sym, ap, _∙_}
+use mathlib.Core.List.{List, [], _∷_}
+use Prim.Native.Nat.{ℕ, zero, suc, _+_, _*_, _/_, _^_, _≤_, _<_}
+use native.Mathlib.Omega.{arith}
+use native.Mathlib.Nat.{div-le-self}
+use lib.IntN.{ℤ, pos, negsuc, natAbs, _+ℤ_, _-ℤ_}
+use lib.Signed.{_≤ℤ_, _<ℤ_, nonNeg, yes-nonNeg, quotZ, mag}
+use lib.Dec.{T}
+use mir.Syntax.{w64}
+use mir.Val.{Fits, SFits}
+use Rattle.whole.specs.Parts.{ℤ-rules, posPart, negPart, ≤→, →≤, parts-abs}
+use Rattle.whole.specs.Laws.{abs-of-nonneg, negPart-of-nonneg}
+use Rattle.whole.specs.Solver.{⇑, ⇓, ring}
+use Rattle.whole.specs.Floor.{floorDiv, floorDiv-le, floorDiv-ge}
+
+abbrev pub distanceFrom : ℤ → ℤ → ℕ
+distanceFrom a b = natAbs (b -ℤ a)
+
+module _ {a b : ℤ} (h : a ≤ℤ b) where
+  pub difference-nonneg : pos 0 ≤ℤ (b -ℤ a)
+  difference-nonneg = let ρ = a ∷ b ∷ [] in ⇑ ρ (search ring) (omega (arith, ⇓ ρ h (search ring)))
+
+  -- b is a and the distance
+  pub distance-is : pos (distanceFrom a b) ≡ b -ℤ a
+  distance-is = abs-of-nonneg difference-nonneg
+
+  module _ (l : distanceFrom a b < 2 ^ 63) where
+    pub difference-fits : SFits w64 (b -ℤ a)
+    difference-fits = small (b -ℤ a) difference-nonneg l
+      where
+        small : (z : ℤ) → pos 0 ≤ℤ z → natAbs z < 2 ^ 63 → SFits w64 z
+        small (pos n) k m = record { sfits = m }
+        small (negsuc n) k m = absurd (k .le)
+
+    pub difference-casts : T (nonNeg (b -ℤ a)) × Fits w64 (natAbs (b -ℤ a))
+    difference-casts = (yes-nonNeg difference-nonneg, record { fits = omega arith })
+
+-- the number half way from a to b, rounded toward a
+abbrev pub halfWay : ℤ → ℤ → ℤ
+halfWay a b = a +ℤ pos (distanceFrom a b / 2)
+
+module _ {a b : ℤ} (h : a ≤ℤ b) where
+  pub halfWay-low : a ≤ℤ halfWay a b
+  halfWay-low = let ρ = a ∷ pos (distanceFrom a b / 2) ∷ [] in ⇑ ρ (search ring) (omega arith)
+
+  pub halfWay-high : halfWay a b ≤ℤ b
+  halfWay-high = let ρ = a ∷ b ∷ pos (distanceFrom a b) ∷ pos (distanceFrom a b / 2) ∷ [] in ⇑ ρ (search ring) (omega (arith, ⇓ ρ (distance-is h) (search ring), div-le-self (distanceFrom a b) 2))
+
+-- what lies between two numbers that fit, fits
+pub between-fits : {a b c : ℤ} → SFits w64 a → SFits w64 c → a ≤ℤ b → b ≤ℤ c → SFits w64 b
+between-fits {a} {b} {c} f g h k = go a b c (f .sfits) (g .sfits) (≤→ h) (≤→ k)
+  where
+    go : (a b c : ℤ) → mag a < 2 ^ 63 → mag c < 2 ^ 63 → posPart a + negPart b ≤ posPart b + negPart a → posPart b + negPart c ≤ posPart c + negPart b → SFits w64 b
+    go (pos x) (pos y) (pos z) l m p q = record { sfits = omega arith }
+    go (pos x) (pos y) (negsuc z) l m p q = absurd (omega arith)
+    go (pos x) (negsuc y) z l m p q = absurd (omega arith)
+    go (negsuc x) (pos y) (pos z) l m p q = record { sfits = omega arith }
+    go (negsuc x) (pos y) (negsuc z) l m p q = absurd (omega arith)
+    go (negsuc x) (negsuc y) z l m p q = record { sfits = omega arith }

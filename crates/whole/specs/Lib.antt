@@ -1,0 +1,10 @@
+pub mod Parts
+pub mod Small
+pub mod Laws
+pub mod Solver
+pub mod Ranges
+pub mod Floor
+pub mod Division
+pub mod Distance
+pub mod Dot
+pub mod Worked
