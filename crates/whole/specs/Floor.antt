@@ -118,4 +118,3 @@ floorDiv-holds a m n h = omega (arith, floorDiv-abs a m)
 -- a rule to list beside `zb`: the quotient is no larger
 abbrev pub bound-floor : {a : ℤ} (m : ℕ) → Bound a → Bound (floorDiv a m)
 bound-floor {a} m x = record { bound = x .bound; holds = floorDiv-holds a m (x .bound) (x .holds) }
-

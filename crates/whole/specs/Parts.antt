@@ -141,4 +141,3 @@ pub →≡ : {a b : ℤ} → posPart a + negPart b ≡ posPart b + negPart a →
 
 -- what `omega` is handed so that it reads the orders and the equations of ℤ among the hypotheses, and proves them
 pub ruleset ℤ-rules = (arith, ≤→, →≤, <→, →<, ≡→, →≡)
-
