@@ -6,5 +6,4 @@ pub mod Ranges
 pub mod Floor
 pub mod Division
 pub mod Distance
-pub mod Dot
 pub mod Worked

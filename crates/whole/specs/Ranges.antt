@@ -1,11 +1,13 @@
--- Bounds on the size of an integer, and that a machine's operation fits, from them. `Within n z` says |z| ≤ n, as a record, so that n and z are
--- inferred from a hypothesis. `B z` is a bound with its proof, which `search bounds` makes of the bounds in reach. Assumes nothing.
+-- Ranges of whole numbers. `Within n z` says |z| ≤ n, `All n xs` says it of each element of a list, and `fits (search bounds) tt` shows from such
+-- facts that an operation's result fits the machine. Then what `==`, casts and branches on signed numbers tell. Assumes nothing.
 use mathlib.Core.Path.{_≡_, refl, sym, ap, _∙_, subst}
 use Prim.Native.Nat.{ℕ, zero, suc, _+_, _*_, _^_, _≤_, _<_}
 use native.Mathlib.Omega.{arith}
 use native.Mathlib.Nat.{le-refl}
 use lib.IntN.{ℤ, pos, negsuc, negℤ, natAbs, _+ℤ_, _-ℤ_, _*ℤ_}
 use lib.Signed.{_≤ℤ_, _<ℤ_, mag}
+use mathlib.Core.List.{List}
+use lib.ListN.{getD}
 use lib.Dec.{T, leb, ltb, leb→le, ltb→lt}
 use mir.Syntax.{Width, w64}
 use mir.Val.{SFits, Fits, hbits, bits, toZ, ofZ}
@@ -17,6 +19,11 @@ use Rattle.whole.specs.Laws.{abs-*-le, abs-+-le, abs-neg, abs→, →abs
 pub record Within (n : ℕ) (z : ℤ) : Type 0 where
   pub within : natAbs z ≤ n
 
+-- each element is within n. Past the end stands 0, so no index is left out
+pub record All (n : ℕ) (xs : List ℤ) : Type 0 where
+  pub each : (k : ℕ) → Within n (getD xs k (pos 0))
+
+-- a bound with its proof, which `search bounds` makes of the bounds in reach
 pub record Bound (z : ℤ) : Type 0 where
   pub bound : ℕ
   pub holds : natAbs z ≤ bound

@@ -3,6 +3,7 @@ ghost use mathlib.Core.Path.{_≡_};
 ghost use lib.IntN.{natAbs};
 
 pub mod inner;
+mod worked;
 
 // The absolute value; it is a count, since that of the least number has no place in an `i64`.
 pub fn absolute(a: i64) -> u64
