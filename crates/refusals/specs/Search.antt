@@ -1,7 +1,7 @@
 -- The first segment that breaks a rule: `firstBad n bad k m` looks at the m segments from k on, and refuses by n at the first bad one. Assumes nothing.
 use mathlib.Core.Path.{_≡_, refl, ap, _∙_}
 use mathlib.Core.Bool.{Bool, true, false, cond}
-use Prim.Native.Nat.{ℕ, zero, suc, _+_, _-_, _<_, _≤_}
+use Prim.Native.Nat.{ℕ, zero, suc, _+_, _-_, _/_, _<_, _≤_}
 use native.Mathlib.Omega.{arith}
 use Rattle.refusals.specs.Verdict.{Verdict, answered, refused, accepted}
 
@@ -41,3 +41,12 @@ firstBad-none number bad k (suc m) e i l h = go (λ q a b. firstBad-none number 
         here-or-behind : (j : ℕ) → i - k ≡ j → bad i ≡ false
         here-or-behind zero f = ap bad (omega arith) ∙ p
         here-or-behind (suc j) f = behind q (omega arith) (omega arith)
+
+-- A search over coefficients names the segment that has the bad one.
+abbrev pub perSegment : Verdict (Unit {0}) → Verdict (Unit {0})
+perSegment (answered a) = answered a
+perSegment (refused number i) = refused number (i / 14)
+
+pub perSegment-accepted : (v : Verdict (Unit {0})) → perSegment v ≡ accepted → v ≡ accepted
+perSegment-accepted (answered a) e = e
+perSegment-accepted (refused number i) e = let z : _≡_ {A = ℕ} 0 1 = cc in absurd (omega arith)

@@ -2,6 +2,7 @@
 use mathlib.Core.Path.{_≡_, refl, sym, _∙_}
 use mathlib.Core.Bool.{Bool, true, false, cond}
 use Prim.Native.Nat.{ℕ}
+use native.Mathlib.Omega.{arith}
 use Rattle.refusals.specs.declared.Refusal.{Refusal}
 use Rattle.refusals.specs.declared.Check.{Check}
 use Rattle.refusals.specs.declared.Check.the-variants.{Accepted, Refused}
@@ -49,3 +50,29 @@ refusal r = refused (r .number) (r .segment)
 abbrev pub paperCheck : Check → Verdict (Unit {0})
 paperCheck Accepted = accepted
 paperCheck (Refused r) = refusal r
+
+-- ---- what is accepted was refused by none
+pub before-accepted : (u v : Verdict (Unit {0})) → u before v ≡ accepted → (u ≡ accepted) × (v ≡ accepted)
+before-accepted (answered tt) v e = (refl, e)
+before-accepted (refused number segment) v e = let z : _≡_ {A = ℕ} 0 1 = cc in absurd (omega arith)
+
+pub refuseWhen-accepted : (test : Bool) (number : ℕ) → refuseWhen test number ≡ accepted → test ≡ false
+refuseWhen-accepted true number e = let z : _≡_ {A = ℕ} 0 1 = cc in absurd (omega arith)
+refuseWhen-accepted false number e = refl
+
+-- ---- a judge's `Check` in a chain: the chain is refused with it, or goes on behind it
+pub refused-first : {A : Type 0} {q : Check} {r : Refusal} {u : Verdict (Unit {0})} (v : Verdict A) → paperCheck q ≡ u → q ≡ Refused r → refusal r ≡ u before v
+refused-first v p e = rw (← p, e)
+
+pub accepted-first : {A : Type 0} {q : Check} {u : Verdict (Unit {0})} (v : Verdict A) → paperCheck q ≡ u → q ≡ Accepted → v ≡ u before v
+accepted-first v p e = rw (← p, e)
+
+pub accepted-is : {q : Check} {u : Verdict (Unit {0})} → paperCheck q ≡ u → q ≡ Accepted → u ≡ accepted
+accepted-is p e = rw (← p, e)
+
+-- ---- the same for a test in a chain
+pub test-refuses : {A : Type 0} {test : Bool} (number : ℕ) (v : Verdict A) → test ≡ true → refused number 0 ≡ refuseWhen test number before v
+test-refuses number v e = rw e
+
+pub test-passes : {A : Type 0} {test : Bool} (number : ℕ) (v : Verdict A) → test ≡ false → v ≡ refuseWhen test number before v
+test-passes number v e = rw e

@@ -1,5 +1,63 @@
-// A series: a start second and fourteen coefficients a segment, of the Sun or of the Moon.
+// A series: a start second and fourteen coefficients a segment, of the Sun or of the Moon; its acceptance, and its value at a second.
+use clock::Second;
+use refusals::Check;
+use refusals::Refusal;
+ghost use mathlib.Core.Path.{_≡_};
+ghost use Rattle.refusals.specs.Verdict.{paperCheck};
+ghost use Rattle.series.specs.Acceptance.{judged, valueOf, paperValue};
+
+pub mod inner;
+mod judging;
+
 pub enum Body {
     Sun,
     Moon,
+}
+
+pub enum ValueAnswer {
+    Value(i64),
+    Refused(Refusal),
+}
+
+// Accepts a series, or refuses it by 2, 3, 4 or 5.
+pub fn accept(body: Body, start: Second, coefs: &[i64]) -> Check
+    ensures { λ r. ⌜ paperCheck r ≡ judged body (start .0) (now (coefs .entry)) ⌝ }
+{
+    let from = start.0;
+    let shape = judging::shape(body, from, coefs.len());
+    if let Check::Refused(r) = shape {
+        return Check::Refused(r);
+    }
+    let ranges = judging::ranges(coefs);
+    if let Check::Refused(r) = ranges {
+        return Check::Refused(r);
+    }
+    let slopes = judging::slopes(body, coefs);
+    if let Check::Refused(r) = slopes {
+        return Check::Refused(r);
+    }
+    judging::joints(body, coefs)
+}
+
+// The value at a second, or a refusal by 2 to 5, or by 6 outside the span.
+pub fn value_at(body: Body, start: Second, coefs: &[i64], second: Second) -> ValueAnswer
+    ensures { λ r. ⌜ paperValue r ≡ valueOf body (start .0) (now (coefs .entry)) (second .0) ⌝ }
+{
+    let judged = accept(body, start, coefs);
+    if let Check::Refused(r) = judged {
+        return ValueAnswer::Refused(r);
+    }
+    let from = start.0;
+    let at = second.0;
+    let outside = Refusal {
+        number: 6,
+        segment: 0,
+    };
+    if at < from {
+        return ValueAnswer::Refused(outside);
+    }
+    if inner::last_second(body, start, coefs) < at {
+        return ValueAnswer::Refused(outside);
+    }
+    ValueAnswer::Value(inner::value(body, start, coefs, second))
 }

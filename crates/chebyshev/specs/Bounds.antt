@@ -1,0 +1,39 @@
+-- How large the rounded polynomials and the sum over them grow inside a segment: what keeps the evaluator in 64 bits. Assumes nothing.
+use mathlib.Core.Path.{_≡_, refl, ap, _∙_}
+use mathlib.Core.List.{List}
+use Prim.Native.Nat.{ℕ, zero, suc, _+_, _*_, _-_, _≤_, _<_}
+use native.Mathlib.Omega.{arith}
+use native.Mathlib.Nat.{mul-le-mul}
+use lib.IntN.{ℤ, pos, natAbs, _+ℤ_, _-ℤ_, _*ℤ_}
+use Rattle.whole.specs.Laws.{abs-+, abs-*-le}
+use Rattle.whole.specs.Floor.{floorDiv}
+use Rattle.whole.specs.Ranges.{Within}
+use Rattle.chebyshev.specs.Polynomials.{S, P}
+use Rattle.chebyshev.specs.Segment.{coefficient, sum, InRange}
+use Rattle.chebyshev.specs.Rounding.{P-within}
+
+-- |P(n)| ≤ S + 78 for n ≤ 13
+pub P-small : {x : ℤ} → Within S x → (n : ℕ) → n ≤ 13 → Within 66355278 (P S x n)
+P-small {x} h zero l = record { within = unfold P in omega arith }
+P-small {x} h (suc n) l = record { within = omega (arith, P-within S x (omega arith) (h .within) n, mul-le-mul {n₁ = n} {m₁ = suc n} {n₂ = 12} {m₂ = 13} (omega arith) (omega arith)) }
+
+-- a sum is at most as many times the bound of its terms as it has terms
+pub sum-within : (first count b : ℕ) (f : ℕ → ℤ) → ((n : ℕ) → first ≤ n → n < first + count → natAbs (f n) ≤ b) → natAbs (sum first count f) ≤ count * b
+unfolding sum
+sum-within first zero b f h = omega arith
+sum-within first (suc count) b f h = omega (arith, abs-+ (sum first count f) (f (first + count)), h (first + count) (omega arith) (omega arith), sum-within first count b f (λ n k l. h n k (omega arith)))
+
+-- the sum of c(n)·P(n) over n = 1..m
+abbrev pub partial : List ℤ → ℤ → ℕ → ℤ
+partial c x m = sum 1 m (λ (n : ℕ). coefficient c n *ℤ P S x n)
+
+pub partial-small : {c : List ℤ} {x : ℤ} → InRange c → Within S x → (m : ℕ) → m ≤ 13 → Within 3450474456000000000 (partial c x m)
+partial-small {c} {x} r h m l =
+    record { within = omega (arith, sum-within 1 m 265421112000000000 (λ (n : ℕ). coefficient c n *ℤ P S x n) (λ n k j. abs-*-le (coefficient c n) (P S x n) {m = 4000000000} {n = 66355278} (r .others n k .within) (P-small h n (omega arith) .within))) }
+
+pub partial-next : (c : List ℤ) (x : ℤ) (m : ℕ) → partial c x (suc m) ≡ partial c x m +ℤ coefficient c (suc m) *ℤ P S x (suc m)
+unfolding sum
+partial-next c x m = ap (λ (n : ℕ). partial c x m +ℤ coefficient c n *ℤ P S x n) (omega arith)
+
+pub P-next : (x : ℤ) (n : ℕ) → P S x (suc (suc n)) ≡ floorDiv (pos 2 *ℤ x *ℤ P S x (suc n)) S -ℤ P S x n
+P-next x n = unfold P in refl

@@ -1,0 +1,11 @@
+pub mod Polynomials
+pub mod Segment
+pub mod Pell
+pub mod Forced
+pub mod Rounding
+pub mod Bounds
+pub mod Sums
+pub mod Nearness
+pub mod Steps
+pub mod Between
+pub mod Theorems

@@ -1,0 +1,73 @@
+// The evaluator of one segment and its slope. Callers show the range (refusal 3) and the place.
+ghost use mathlib.Core.Path.{_≡_};
+ghost use Prim.Native.Nat.{_*_, _<_};
+ghost use lib.IntN.{pos, natAbs, _-ℤ_, _*ℤ_};
+ghost use lib.ListN.{length};
+ghost use Rattle.whole.specs.Floor.{floorDiv};
+ghost use Rattle.whole.specs.Ranges.{Within};
+ghost use Rattle.chebyshev.specs.Polynomials.{S};
+ghost use Rattle.chebyshev.specs.Segment.{InRange};
+ghost use Rattle.chebyshev.specs.Segment as segment;
+
+// A number divided by the scale and rounded down. 69,500,000,000 times the scale is added first, so that an unsigned division does it.
+fn floor_by_scale(t: i64) -> i64
+    requires { ⌜ Within 4000000000000000000 t ⌝ }
+    ensures { λ r. ⌜ r ≡ floorDiv t S ⌝ }
+{
+    ((t + 4611686400000000000) as u64 / 66355200) as i64 - 69500000000
+}
+
+// The polynomial after `here`, which comes after `before`.
+fn next(x: i64, here: i64, before: i64) -> i64
+    requires { ⌜ Within S x ⌝ }
+    requires { ⌜ Within 66355278 here ⌝ }
+    requires { ⌜ Within 66355278 before ⌝ }
+    ensures { λ r. ⌜ r ≡ floorDiv (pos 2 *ℤ x *ℤ here) S -ℤ before ⌝ }
+{
+    floor_by_scale(2 * x * here) - before
+}
+
+// The value at the place x: one pass that holds two polynomials and the sum.
+pub fn value(x: i64, coefs: &[i64]) -> i64
+    requires { do ⌜ (← ⟦coefs.len()⟧) ≡ 14 ⌝ }
+    requires { ⌜ InRange (now coefs) ⌝ }
+    requires { ⌜ Within S x ⌝ }
+    ensures { λ r. ⌜ r ≡ segment.value (now (coefs .entry)) x ⌝ }
+{
+    let mut before: i64 = 66355200;
+    let mut here = x;
+    let mut sum = coefs[1] * x;
+    let mut n = 2;
+    while n < 14 {
+        let after = next(x, here, before);
+        before = here;
+        here = after;
+        sum += coefs[n] * here;
+        n += 1;
+    }
+    coefs[0] + floor_by_scale(sum)
+}
+
+// n² times the size of a coefficient.
+fn weight(c: i64, n: usize) -> i64
+    requires { ⌜ Within 4000000000 c ⌝ }
+    requires { ⌜ n < 14 ⌝ }
+    ensures { λ r. ⌜ r ≡ pos (n * n * natAbs c) ⌝ }
+{
+    ((n * n) as u64 * whole::absolute(c)) as i64
+}
+
+// How fast a segment rises at least: c1 minus the weights of the coefficients after it.
+pub fn slope(coefs: &[i64]) -> i64
+    requires { do ⌜ (← ⟦coefs.len()⟧) ≡ 14 ⌝ }
+    requires { ⌜ InRange (now coefs) ⌝ }
+    ensures { λ r. ⌜ r ≡ segment.slope (now (coefs .entry)) ⌝ }
+{
+    let mut left = coefs[1];
+    let mut n = 2;
+    while n < 14 {
+        left -= weight(coefs[n], n);
+        n += 1;
+    }
+    left
+}

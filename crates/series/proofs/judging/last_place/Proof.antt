@@ -1,0 +1,20 @@
+-- `series::judging::last_place` meets its contract. Assumes nothing.
+use mathlib.Core.Path.{refl}
+use borrow.Author.Needs.{needs}
+use Rattle.series.proofs.judging.last_place.Statement.{statement}
+use Rattle.series.proofs.judging.last_place.Tie as tie
+
+enum-told : tie.Need-enum-told
+enum-told c = search needs
+
+enum-told-2 : tie.Need-enum-told-2
+enum-told-2 c = search needs
+
+returns : tie.Need-returns
+returns c = rw (c .enum-told .given .1)
+
+returns-2 : tie.Need-returns-2
+returns-2 c = rw (c .enum-told2 .given .1)
+
+pub last-place-spec : {M : Type 1} → statement M
+last-place-spec = tie.close (tie.spec enum-told enum-told-2 returns returns-2)

@@ -1,0 +1,21 @@
+-- `series::judging::limit_of` meets its contract. Assumes nothing.
+use mathlib.Core.Path.{_≡_, refl, sym}
+use Prim.Native.Nat.{ℕ, zero, suc}
+use native.Mathlib.Omega.{arith}
+use borrow.Author.Needs.{needs}
+use Rattle.series.specs.Acceptance.{limit}
+use Rattle.series.proofs.judging.limit_of.Statement.{statement}
+use Rattle.series.proofs.judging.limit_of.Tie as tie
+
+later : (n : ℕ) → (n ≡ 0 → ⊥) → 4000000000 ≡ limit n
+later zero h = absurd (h refl)
+later (suc n) h = refl
+
+returns : tie.Need-returns
+returns c = search needs
+
+returns-2 : tie.Need-returns-2
+returns-2 c = later (c .before .args .n) (λ e. omega arith)
+
+pub limit-of-spec : {M : Type 1} → statement M
+limit-of-spec = tie.close (tie.spec returns returns-2)

@@ -1,0 +1,69 @@
+-- When a series is accepted, and by which number it is refused otherwise (document 01, "Segments" and "Refusal numbers"): 2; then 3 over all segments;
+-- then 4 over all; then 5 over all joints. Assumes nothing: these are definitions.
+use mathlib.Core.Path.{_≡_}
+use mathlib.Core.Bool.{Bool, true, false, not, _||_}
+use mathlib.Core.List.{List}
+use Prim.Native.Nat.{ℕ, zero, suc, _+_, _*_, _-_, _/_, _%_}
+use lib.Dec.{ltb, eqb}
+use lib.IntN.{ℤ, pos, negsuc, negℤ, natAbs, _+ℤ_, _-ℤ_}
+use lib.Signed.{ltZ}
+use lib.ListN.{length, getD}
+use Rattle.refusals.specs.Verdict.{Verdict, answered, refused, accepted, refuseWhen, refusal, _before_}
+use Rattle.refusals.specs.Search.{firstBad, perSegment}
+use Rattle.chebyshev.specs.Polynomials.{S}
+use Rattle.chebyshev.specs.Segment.{value, slope}
+use Rattle.series.specs.declared.Body.{Body}
+use Rattle.series.specs.declared.ValueAnswer.{ValueAnswer}
+use Rattle.series.specs.declared.ValueAnswer.the-variants.{Value, Refused}
+use Rattle.series.specs.Bodies.{numbers}
+use Rattle.series.specs.Series.{segment, segments, valueAt, InSpan, lastSecond}
+
+-- 2: coefficient count not a multiple of 14, none, too many, or start out of range
+abbrev pub judgedShape : Body → ℤ → ℕ → Verdict (Unit {0})
+judgedShape body start count =
+    refuseWhen (not (eqb (count % 14) 0)) 2
+    before refuseWhen (eqb count 0) 2
+    before refuseWhen (ltb (14 * numbers body .mostSegments) count) 2
+    before refuseWhen (ltZ start (negℤ (pos 10000000000))) 2
+    before refuseWhen (ltZ (pos 10000000000) start) 2
+
+-- 3: |c0| ≤ 10^15, |cn| ≤ 4,000,000,000
+abbrev pub limit : ℕ → ℕ
+limit zero = 1000000000000000
+limit (suc n) = 4000000000
+
+abbrev pub outOfRange : List ℤ → ℕ → Bool
+outOfRange coefs i = ltb (limit (i % 14)) (natAbs (getD coefs i (pos 0)))
+
+-- 4: c1 minus the sum over n ≥ 2 of n²·|cn| is less than 100H
+abbrev pub slow : Body → List ℤ → ℕ → Bool
+slow body coefs k = ltZ (slope (segment coefs k)) (pos (100 * numbers body .halfLength))
+
+-- 5: from the last second of the segment before to the first of segment k the value rises by less than 200 or more than 100,000
+abbrev pub rise : Body → List ℤ → ℕ → ℤ
+rise body coefs k = value (segment coefs k) (negℤ (pos S)) -ℤ value (segment coefs (k - 1)) (pos S -ℤ pos (numbers body .step))
+
+abbrev pub badJoint : Body → List ℤ → ℕ → Bool
+badJoint body coefs k = ltZ (rise body coefs k) (pos 200) || ltZ (pos 100000) (rise body coefs k)
+
+unfoldable pub judged : Body → ℤ → List ℤ → Verdict (Unit {0})
+judged body start coefs =
+    judgedShape body start (length coefs)
+    before perSegment (firstBad 3 (outOfRange coefs) 0 (length coefs))
+    before firstBad 4 (slow body coefs) 0 (segments coefs)
+    before firstBad 5 (badJoint body coefs) 1 (segments coefs - 1)
+
+abbrev pub Accepted : Body → ℤ → List ℤ → Type 0
+Accepted body start coefs = judged body start coefs ≡ accepted
+
+-- The value at a second: 2 to 5 on the whole series, then 6 outside the span.
+unfoldable pub valueOf : Body → ℤ → List ℤ → ℤ → Verdict ℤ
+valueOf body start coefs second =
+    judged body start coefs
+    before refuseWhen (ltZ second start) 6
+    before refuseWhen (ltZ (lastSecond body start coefs) second) 6
+    before answered (valueAt body start coefs second)
+
+abbrev pub paperValue : ValueAnswer → Verdict ℤ
+paperValue (Value v) = answered v
+paperValue (Refused r) = refusal r

@@ -1,0 +1,75 @@
+// The value at a second of an accepted series. Callers show that the series is accepted and that the second is in its span.
+use crate::Body;
+use clock::Second;
+ghost use mathlib.Core.Path.{_≡_};
+ghost use Prim.Native.Nat.{_/_, _<_};
+ghost use lib.IntN.{pos, _-ℤ_, _*ℤ_};
+ghost use Rattle.whole.specs.Ranges.{Within};
+ghost use Rattle.series.specs.Bodies.{numbers};
+ghost use Rattle.series.specs.Series.{segmentLength, placeAfter, InSpan, lastSecond, valueAt};
+ghost use Rattle.series.specs.Acceptance.{Accepted};
+
+// H, half the seconds of a segment.
+pub fn half_length(body: Body) -> usize
+    ensures { λ r. ⌜ r ≡ numbers body .halfLength ⌝ }
+{
+    match body {
+        Body::Sun => 1382400,
+        Body::Moon => 172800,
+    }
+}
+
+// The segment that has the second so many seconds after the start. Each body divides by a constant.
+pub fn segment_after(body: Body, seconds: usize) -> usize
+    ensures { λ r. ⌜ r ≡ seconds / segmentLength body ⌝ }
+{
+    match body {
+        Body::Sun => seconds / 2764800,
+        Body::Moon => seconds / 345600,
+    }
+}
+
+// The place of a second, so many seconds after its segment's first.
+fn place(step: i64, within: usize, half: i64) -> i64
+    requires { ⌜ Within 384 step ⌝ }
+    requires { ⌜ within < 2764800 ⌝ }
+    requires { ⌜ Within 1382400 half ⌝ }
+    ensures { λ r. ⌜ r ≡ step *ℤ (pos within -ℤ half) ⌝ }
+{
+    step * (within as i64 - half)
+}
+
+// Its place there.
+pub fn place_after(body: Body, seconds: usize) -> i64
+    ensures { λ r. ⌜ r ≡ placeAfter body seconds ⌝ }
+{
+    match body {
+        Body::Sun => place(48, seconds % 2764800, 1382400),
+        Body::Moon => place(384, seconds % 345600, 172800),
+    }
+}
+
+// The last second of the span.
+pub fn last_second(body: Body, start: Second, coefs: &[i64]) -> i64
+    requires { ⌜ Accepted body (start .0) (now coefs) ⌝ }
+    ensures { λ r. ⌜ r ≡ lastSecond body (start .0) (now (coefs .entry)) ⌝ }
+{
+    let from = start.0;
+    let seconds = 2 * half_length(body) * (coefs.len() / 14);
+    let end = whole::inner::add(from, whole::inner::signed(seconds));
+    whole::inner::subtract(end, 1)
+}
+
+// The value at a second of the span.
+pub fn value(body: Body, start: Second, coefs: &[i64], second: Second) -> i64
+    requires { ⌜ Accepted body (start .0) (now coefs) ⌝ }
+    requires { ⌜ InSpan body (start .0) (now coefs) (second .0) ⌝ }
+    ensures { λ r. ⌜ r ≡ valueAt body (start .0) (now (coefs .entry)) (second .0) ⌝ }
+{
+    let from = start.0;
+    let at = second.0;
+    let seconds = whole::inner::distance(from, at);
+    let first = 14 * segment_after(body, seconds);
+    let end = first + 14;
+    chebyshev::inner::value(place_after(body, seconds), &coefs[first..end])
+}
