@@ -58,3 +58,10 @@ between-fits {a} {b} {c} f g h k = go a b c (f .sfits) (g .sfits) (≤→ h) (�
     go (negsuc x) (pos y) (pos z) l m p q = record { sfits = omega arith }
     go (negsuc x) (pos y) (negsuc z) l m p q = absurd (omega arith)
     go (negsuc x) (negsuc y) z l m p q = record { sfits = omega arith }
+
+-- one further on is one further away
+pub distance-next : {a b : ℤ} → a ≤ℤ b → distanceFrom a (b +ℤ pos 1) ≡ distanceFrom a b + 1
+distance-next {a} {b} h =
+    let ρ = a ∷ b ∷ pos (distanceFrom a b) ∷ pos (distanceFrom a (b +ℤ pos 1)) ∷ [] in
+    let k : a ≤ℤ (b +ℤ pos 1) = ⇑ ρ (search ring) (omega (arith, ⇓ ρ h (search ring))) in
+    omega (arith, ⇓ ρ (distance-is h) (search ring), ⇓ ρ (distance-is k) (search ring))

@@ -118,3 +118,14 @@ floorDiv-holds a m n h = omega (arith, floorDiv-abs a m)
 -- a rule to list beside `zb`: the quotient is no larger
 abbrev pub bound-floor : {a : ℤ} (m : ℕ) → Bound a → Bound (floorDiv a m)
 bound-floor {a} m x = record { bound = x .bound; holds = floorDiv-holds a m (x .bound) (x .holds) }
+
+-- ---- counting on by one: the remainder grows by one, or is full and the quotient grows
+nat-unique : (n q m r : ℕ) → r < m → n ≡ q * m + r → (n / m ≡ q) × (n % m ≡ r)
+unfolding floorDiv floorMod
+nat-unique n q m r h e = (omega (arith, ≡→ (floorDiv-unique (pos n) (pos q) m r h (ap pos e))), floorMod-unique (pos n) (pos q) m r h (ap pos e))
+
+pub div-step : (m n : ℕ) → n % m + 1 < m → ((n + 1) / m ≡ n / m) × ((n + 1) % m ≡ n % m + 1)
+div-step m n h = nat-unique (n + 1) (n / m) m (n % m + 1) h (omega (arith, div-add-mod' n m))
+
+pub div-wrap : (m n : ℕ) → n % m + 1 ≡ m → 0 < m → ((n + 1) / m ≡ n / m + 1) × ((n + 1) % m ≡ 0)
+div-wrap m n h p = nat-unique (n + 1) (n / m + 1) m 0 p (omega (arith, div-add-mod' n m))
