@@ -1,0 +1,2 @@
+// Signed little-endian words in bytes.
+pub mod inner;
