@@ -1,12 +1,11 @@
 -- Rounding down by an unsigned division: add a multiple of the divisor first, take the quotient back after. Assumes nothing.
 use mathlib.Core.Path.{_≡_, refl, sym, ap, _∙_}
-use mathlib.Core.List.{List, [], _∷_}
-use Prim.Native.Nat.{ℕ, suc, _*_, _/_, _<_}
-use native.Mathlib.Omega.{arith}
+use mathlib.Core.List.{[], _∷_}
+use Prim.Native.Nat.{ℕ, _/_, _<_}
 use lib.IntN.{ℤ, pos, negsuc, natAbs, _+ℤ_, _-ℤ_, _*ℤ_}
 use lib.Signed.{_≤ℤ_}
 use Rattle.whole.specs.Floor.{floorDiv, floorDiv-add}
-use Rattle.whole.specs.Solver.{⇑, ⇓, ring}
+use Rattle.whole.specs.Solver.{⇑, ring}
 
 floor-of-nonneg : (z : ℤ) (m : ℕ) → pos 0 ≤ℤ z → floorDiv z m ≡ pos (natAbs z / m)
 unfolding floorDiv

@@ -1,7 +1,7 @@
 -- From sums that rise to values that rise: v and w are values near the sums e and f over a divisor d. Assumes nothing.
 use mathlib.Core.List.{List, [], _∷_}
 use mathlib.Core.Logic.{⊎-elim}
-use Prim.Native.Nat.{ℕ, _+_, _*_, _≤_, _<_}
+use Prim.Native.Nat.{ℕ, _*_, _≤_}
 use native.Mathlib.Omega.{arith}
 use lib.IntN.{ℤ, pos, negℤ, natAbs, _+ℤ_, _-ℤ_, _*ℤ_}
 use Rattle.whole.specs.Parts.{_⩽_, _≺_, →≤, ℤ-rules, parts-abs, posPart-neg, negPart-neg}

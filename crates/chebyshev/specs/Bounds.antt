@@ -1,16 +1,19 @@
 -- How large the rounded polynomials and the sum over them grow inside a segment: what keeps the evaluator in 64 bits. Assumes nothing.
-use mathlib.Core.Path.{_≡_, refl, ap, _∙_}
-use mathlib.Core.List.{List}
-use Prim.Native.Nat.{ℕ, zero, suc, _+_, _*_, _-_, _≤_, _<_}
+use mathlib.Core.Path.{_≡_, refl, ap}
+use mathlib.Core.List.{List, [], _∷_}
+use Prim.Native.Nat.{ℕ, zero, suc, _+_, _*_, _≤_, _<_}
 use native.Mathlib.Omega.{arith}
 use native.Mathlib.Nat.{mul-le-mul}
-use lib.IntN.{ℤ, pos, natAbs, _+ℤ_, _-ℤ_, _*ℤ_}
-use Rattle.whole.specs.Laws.{abs-+, abs-*-le}
+use lib.IntN.{ℤ, pos, negsuc, natAbs, _+ℤ_, _-ℤ_, _*ℤ_}
+use Rattle.whole.specs.Parts.{_⩽_}
+use Rattle.whole.specs.Laws.{abs-+, abs-*-le, abs→}
+use Rattle.whole.specs.Solver.{⇓, ring}
 use Rattle.whole.specs.Floor.{floorDiv}
 use Rattle.whole.specs.Ranges.{Within}
 use Rattle.chebyshev.specs.Polynomials.{S, P}
-use Rattle.chebyshev.specs.Segment.{coefficient, sum, InRange}
+use Rattle.chebyshev.specs.Segment.{coefficient, sum, allowance, InRange, slope}
 use Rattle.chebyshev.specs.Rounding.{P-within}
+use Rattle.chebyshev.specs.Sums.{weights, sum-pos}
 
 -- |P(n)| ≤ S + 78 for n ≤ 13
 pub P-small : {x : ℤ} → Within S x → (n : ℕ) → n ≤ 13 → Within 66355278 (P S x n)
@@ -37,3 +40,19 @@ partial-next c x m = ap (λ (n : ℕ). partial c x m +ℤ coefficient c n *ℤ P
 
 pub P-next : (x : ℤ) (n : ℕ) → P S x (suc (suc n)) ≡ floorDiv (pos 2 *ℤ x *ℤ P S x (suc n)) S -ℤ P S x n
 P-next x n = unfold P in refl
+
+-- the last division's result
+pub floor-small : (z : ℤ) → natAbs z ≤ 3450474456000000000 → natAbs (floorDiv z S) ≤ 100000000000
+unfolding floorDiv
+floor-small (pos a) h = omega arith
+floor-small (negsuc a) h = omega arith
+
+-- a segment that rises fast enough has weights so small that the value keeps its allowance
+module _ {c : List ℤ} (r : InRange c) where
+  pub weights-small : (H : ℕ) → 172800 ≤ H → pos (100 * H) ⩽ slope c → weights (λ (n : ℕ). coefficient c n) + 2 * S ≤ 2 * allowance * S
+  unfolding slope
+  weights-small H l f =
+      let t = sum 2 12 (λ (n : ℕ). pos (n * n * natAbs (coefficient c n))) in
+      let w = pos (weights (λ (n : ℕ). coefficient c n)) in
+      let ρ = coefficient c 1 ∷ t ∷ w ∷ pos H ∷ [] in
+      omega (arith, ⇓ ρ f (search ring depth 9), ⇓ ρ (sum-pos 2 12 (λ (n : ℕ). n * n * natAbs (coefficient c n))) (search ring depth 9), ⇓ ρ (abs→ {z = coefficient c 1} 4000000000 (r .others 1 (omega arith) .within) .1) (search ring depth 9))

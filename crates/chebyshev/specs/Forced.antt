@@ -1,9 +1,9 @@
 -- The forced recurrence A(n+2) = 2y·A(n+1) - s²·A(n) + f(n+1), solved once by W and bounded. Assumes nothing.
 use mathlib.Core.Path.{_≡_, refl, sym, ap, _∙_}
-use mathlib.Core.List.{List, [], _∷_}
+use mathlib.Core.List.{[], _∷_}
 use Prim.Native.Nat.{ℕ, zero, suc, _+_, _*_, _-_, _^_, _≤_, _<_}
 use native.Mathlib.Omega.{arith}
-use native.Mathlib.Nat.{mul-le-mul, le-refl, le-trans}
+use native.Mathlib.Nat.{mul-le-mul, le-refl}
 use lib.IntN.{ℤ, pos, negℤ, natAbs, _+ℤ_, _-ℤ_, _*ℤ_}
 use lib.Pow.{pow-add}
 use Rattle.whole.specs.Laws.{abs-*, abs-+}

@@ -1,11 +1,12 @@
 pub mod Polynomials
 pub mod Segment
+pub mod Examples
+pub mod Theorems
 pub mod Pell
 pub mod Forced
 pub mod Rounding
-pub mod Bounds
 pub mod Sums
+pub mod Bounds
 pub mod Nearness
 pub mod Steps
 pub mod Between
-pub mod Theorems

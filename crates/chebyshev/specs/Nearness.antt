@@ -1,10 +1,10 @@
 -- The value against the exact sum, at any scale s: 2·|s¹³·value - exact| ≤ s¹²·(Σ n²·|c(n)| + 2r), r the remainder of the last division.
 -- Assumes nothing.
-use mathlib.Core.Path.{_≡_, refl, sym, ap, _∙_}
-use mathlib.Core.List.{List, [], _∷_}
+use mathlib.Core.Path.{_≡_, ap, _∙_}
+use mathlib.Core.List.{[], _∷_}
 use Prim.Native.Nat.{ℕ, zero, suc, _+_, _*_, _-_, _^_, _≤_, _<_}
 use native.Mathlib.Omega.{arith}
-use native.Mathlib.Nat.{mul-le-mul, mul-le-mul-left, pow-succ', le-refl, one-le-pow}
+use native.Mathlib.Nat.{mul-le-mul-left, pow-succ', one-le-pow}
 use lib.IntN.{ℤ, pos, natAbs, _+ℤ_, _-ℤ_, _*ℤ_}
 use lib.Pow.{pow-add}
 use Rattle.whole.specs.Parts.{_≺_, →<}
@@ -14,7 +14,7 @@ use Rattle.whole.specs.Floor.{floorDiv, floorMod, floorDiv-floorMod, floorMod-l
 use Rattle.chebyshev.specs.Polynomials.{P, Q}
 use Rattle.chebyshev.specs.Segment.{sum}
 use Rattle.chebyshev.specs.Rounding.{error, error-within, P-split}
-use Rattle.chebyshev.specs.Sums.{sumℕ, sum-linear, sum-first, sum-weighed}
+use Rattle.chebyshev.specs.Sums.{weights, sum-linear, sum-first, sum-weighed}
 
 -- s¹² is s^(12-m)·s^m
 pub power-apart : (s m : ℕ) → m ≤ 12 → s ^ 12 ≡ s ^ (12 - m) * s ^ m
@@ -29,9 +29,6 @@ module _ (s : ℕ) (c : ℕ → ℤ) (x : ℤ) where
 
   abbrev errors : ℤ
   errors = sum 1 13 (λ (n : ℕ). c n *ℤ pos (s ^ (13 - n)) *ℤ error s x n)
-
-  abbrev weights : ℕ
-  weights = sumℕ 2 12 (λ (n : ℕ). n * n * natAbs (c n))
 
   module _ (h : 0 < s) where
     term-split : (n : ℕ) → 1 ≤ n → n < 14 → pos (s ^ 12) *ℤ (c n *ℤ P s x n) ≡ pos 1 *ℤ (c n *ℤ pos (s ^ (13 - n)) *ℤ Q (pos s) x n) +ℤ pos 1 *ℤ (c n *ℤ pos (s ^ (13 - n)) *ℤ error s x n)
@@ -69,7 +66,7 @@ module _ (s : ℕ) (c : ℕ → ℤ) (x : ℤ) where
       no-first-error : natAbs (error s x 1) ≡ 0
       no-first-error = omega (arith, error-within s x h k 0)
 
-      errors-weighed : 2 * natAbs errors ≤ s ^ 12 * weights
+      errors-weighed : 2 * natAbs errors ≤ s ^ 12 * weights c
       errors-weighed =
           let f : ℕ → ℤ = λ (n : ℕ). c n *ℤ pos (s ^ (13 - n)) *ℤ error s x n in
           let first : natAbs (f 1) ≡ 0 = abs-* (c 1 *ℤ pos (s ^ (13 - 1))) (error s x 1) ∙ rw no-first-error (omega arith) in
@@ -86,12 +83,12 @@ module _ (s : ℕ) (c : ℕ → ℤ) (x : ℤ) where
             ⇓ ρ (ap (λ (z : ℕ). pos z *ℤ floorDiv rounded s) (pow-succ' s 12)) (search ring depth 12),
           ))
 
-      pub nearness : 2 * natAbs (pos (s ^ 13) *ℤ (c 0 +ℤ floorDiv rounded s) -ℤ (c 0 *ℤ pos (s ^ 13) +ℤ true-sum)) ≤ s ^ 12 * (weights + 2 * floorMod rounded s)
+      pub nearness : 2 * natAbs (pos (s ^ 13) *ℤ (c 0 +ℤ floorDiv rounded s) -ℤ (c 0 *ℤ pos (s ^ 13) +ℤ true-sum)) ≤ s ^ 12 * (weights c + 2 * floorMod rounded s)
       nearness = rw apart (omega (arith, errors-weighed, abs-- errors (pos (s ^ 12) *ℤ pos (floorMod rounded s)), abs-* (pos (s ^ 12)) (pos (floorMod rounded s))))
 
-      -- less than 32 from it, where the weights are at most 62 times the scale
-      pub near : weights + 2 * s ≤ 64 * s → pos (natAbs (pos (s ^ 13) *ℤ (c 0 +ℤ floorDiv rounded s) -ℤ (c 0 *ℤ pos (s ^ 13) +ℤ true-sum))) ≺ pos 32 *ℤ pos (s ^ 13)
-      near l = →< (closed s (s ^ 12) (s ^ 13) (natAbs (pos (s ^ 13) *ℤ (c 0 +ℤ floorDiv rounded s) -ℤ (c 0 *ℤ pos (s ^ 13) +ℤ true-sum))) (weights + 2 * floorMod rounded s) (one-le-pow 12 s h) (pow-succ' s 12) nearness (omega (arith, floorMod-lt rounded s h)))
+      -- less than m from it, where the weights and twice the scale are at most 2m times the scale
+      pub near : (m : ℕ) → weights c + 2 * s ≤ 2 * m * s → pos (natAbs (pos (s ^ 13) *ℤ (c 0 +ℤ floorDiv rounded s) -ℤ (c 0 *ℤ pos (s ^ 13) +ℤ true-sum))) ≺ pos m *ℤ pos (s ^ 13)
+      near m l = →< (closed s (s ^ 12) (s ^ 13) m (natAbs (pos (s ^ 13) *ℤ (c 0 +ℤ floorDiv rounded s) -ℤ (c 0 *ℤ pos (s ^ 13) +ℤ true-sum))) (weights c + 2 * floorMod rounded s) (one-le-pow 12 s h) (pow-succ' s 12) nearness (omega (arith, floorMod-lt rounded s h)))
         where
-          closed : (s p d a k : ℕ) → 1 ≤ p → d ≡ s * p → 2 * a ≤ p * k → k < 64 * s → a + 0 < 32 * d + 0
-          closed s p d a k o e l m = omega (arith, mul-le-mul-left {m = suc k} {n = 64 * s} p (omega arith))
+          closed : (s p d m a k : ℕ) → 1 ≤ p → d ≡ s * p → 2 * a ≤ p * k → k < 2 * m * s → a + 0 < m * d + 0
+          closed s p d m a k o e l i = omega (arith, mul-le-mul-left {m = suc k} {n = 2 * m * s} p (omega arith), ap (λ (z : ℕ). m * z) e)

@@ -1,7 +1,7 @@
 -- Pell's equation for Q and W, and from it |Q n| ≤ |s|ⁿ and |W n| ≤ (n+1)·|s|ⁿ where |x| ≤ |s|. Assumes nothing.
 use mathlib.Core.Path.{_≡_, refl, sym, ap, _∙_}
 use mathlib.Core.List.{List, [], _∷_}
-use Prim.Native.Nat.{ℕ, zero, suc, _+_, _*_, _^_, _≤_}
+use Prim.Native.Nat.{ℕ, zero, suc, _*_, _^_, _≤_}
 use native.Mathlib.Omega.{arith}
 use native.Mathlib.Nat.{mul-le-mul, pow-succ', pow-zero}
 use native.Mathlib.Decide.{decLe}

@@ -1,12 +1,11 @@
 -- From one place to another, at any scale s: Q(n) at y less Q(n) at x is (y - x)·G(n) with |G(n)| ≤ n²·s^(n-1), so the exact sum rises as c1 and the
 -- weights of the others say. Assumes nothing.
 use mathlib.Core.Path.{_≡_, refl, sym, ap, _∙_}
-use mathlib.Core.List.{List, [], _∷_}
-use Prim.Native.Nat.{ℕ, zero, suc, _+_, _*_, _-_, _^_, _≤_, _<_}
+use mathlib.Core.List.{[], _∷_}
+use Prim.Native.Nat.{ℕ, zero, suc, _*_, _-_, _^_, _≤_, _<_}
 use native.Mathlib.Omega.{arith}
 use native.Mathlib.Nat.{mul-le-mul-left, pow-succ'}
 use lib.IntN.{ℤ, pos, negℤ, natAbs, _+ℤ_, _-ℤ_, _*ℤ_}
-use lib.Signed.{_≤ℤ_}
 use Rattle.whole.specs.Parts.{_⩽_, →≤}
 use Rattle.whole.specs.Laws.{abs-*, abs→, *-nonneg}
 use Rattle.whole.specs.Solver.{⇑, ⇓, ring}
@@ -14,7 +13,7 @@ use Rattle.chebyshev.specs.Polynomials.{Q}
 use Rattle.chebyshev.specs.Segment.{sum}
 use Rattle.chebyshev.specs.Pell.{Q-within}
 use Rattle.chebyshev.specs.Forced.{Forced, forced-within}
-use Rattle.chebyshev.specs.Sums.{sumℕ, sum-linear, sum-first, sum-weighed, sum-pos}
+use Rattle.chebyshev.specs.Sums.{weights, sum-linear, sum-first, sum-weighed, sum-pos}
 use Rattle.chebyshev.specs.Nearness.{power-apart}
 
 module _ (s x y : ℤ) where
@@ -57,9 +56,6 @@ module _ (s : ℕ) (c : ℕ → ℤ) where
   abbrev pub true-sum : ℤ → ℤ
   true-sum x = sum 1 13 (λ (n : ℕ). c n *ℤ pos (s ^ (13 - n)) *ℤ Q (pos s) x n)
 
-  abbrev pub weights : ℕ
-  weights = sumℕ 2 12 (λ (n : ℕ). n * n * natAbs (c n))
-
   module _ (x y : ℤ) where
     abbrev terms : ℕ → ℤ
     terms n = c n *ℤ pos (s ^ (13 - n)) *ℤ G (pos s) x y n
@@ -79,7 +75,7 @@ module _ (s : ℕ) (c : ℕ → ℤ) where
     first-apart : sum 1 13 terms ≡ c 1 *ℤ pos (s ^ 12) +ℤ rest
     first-apart = sum-first 12 terms ∙ unfold G in ⇑ (c 1 ∷ pos (s ^ 12) ∷ sum 2 12 terms ∷ []) (search ring depth 9) refl
 
-    rest-within : natAbs x ≤ s → natAbs y ≤ s → natAbs rest ≤ s ^ 12 * weights
+    rest-within : natAbs x ≤ s → natAbs y ≤ s → natAbs rest ≤ s ^ 12 * weights c
     rest-within h k = omega (arith, sum-weighed 1 (s ^ 12) 2 12 terms (λ (n : ℕ). n * n * natAbs (c n)) (λ n l m. each n l (omega arith)))
       where
         counted : (n a p t u g : ℕ) → g ≤ suc n * suc n * t → u ≡ p * t → 1 * (a * p * g) ≤ u * (suc n * suc n * a)
@@ -113,42 +109,42 @@ module _ (s : ℕ) (c : ℕ → ℤ) where
     divisor-is : pos (s ^ 13) ≡ pos q *ℤ pos H *ℤ pos (s ^ 12)
     divisor-is = ap pos (pow-succ' s 12 ∙ ap (λ (z : ℕ). z * s ^ 12) (sym e))
 
-    slow-enough : pos 0 ⩽ c 1 -ℤ pos weights -ℤ pos 100 *ℤ pos H
+    slow-enough : pos 0 ⩽ c 1 -ℤ pos (weights c) -ℤ pos 100 *ℤ pos H
     slow-enough =
         let w = sum 2 12 (λ (n : ℕ). pos (n * n * natAbs (c n))) in
-        let ρ = pos H ∷ c 1 ∷ w ∷ pos weights ∷ [] in
+        let ρ = pos H ∷ c 1 ∷ w ∷ pos (weights c) ∷ [] in
         ⇑ ρ (search ring depth 12) (omega (arith, ⇓ ρ slow (search ring depth 12), ⇓ ρ (sum-pos 2 12 (λ (n : ℕ). n * n * natAbs (c n))) (search ring depth 12)))
 
-    rest-low : pos 0 ⩽ rest x later +ℤ pos (s ^ 12) *ℤ pos weights
-    rest-low = let ρ = rest x later ∷ pos (s ^ 12) ∷ pos weights ∷ [] in ⇑ ρ (search ring depth 9) (omega (arith, ⇓ ρ (abs→ {z = rest x later} (s ^ 12 * weights) (rest-within x later h k) .0) (search ring depth 9)))
+    rest-low : pos 0 ⩽ rest x later +ℤ pos (s ^ 12) *ℤ pos (weights c)
+    rest-low = let ρ = rest x later ∷ pos (s ^ 12) ∷ pos (weights c) ∷ [] in ⇑ ρ (search ring depth 9) (omega (arith, ⇓ ρ (abs→ {z = rest x later} (s ^ 12 * weights c) (rest-within x later h k) .0) (search ring depth 9)))
 
-    rest-high : pos 0 ⩽ pos (s ^ 12) *ℤ pos weights -ℤ rest x later
-    rest-high = let ρ = rest x later ∷ pos (s ^ 12) ∷ pos weights ∷ [] in ⇑ ρ (search ring depth 9) (omega (arith, ⇓ ρ (abs→ {z = rest x later} (s ^ 12 * weights) (rest-within x later h k) .1) (search ring depth 9)))
+    rest-high : pos 0 ⩽ pos (s ^ 12) *ℤ pos (weights c) -ℤ rest x later
+    rest-high = let ρ = rest x later ∷ pos (s ^ 12) ∷ pos (weights c) ∷ [] in ⇑ ρ (search ring depth 9) (omega (arith, ⇓ ρ (abs→ {z = rest x later} (s ^ 12 * weights c) (rest-within x later h k) .1) (search ring depth 9)))
 
     pub rises : (c 0 *ℤ pos (s ^ 13) +ℤ true-sum x) +ℤ pos 100 *ℤ pos (s ^ 13) ⩽ c 0 *ℤ pos (s ^ 13) +ℤ true-sum later
     rises =
         let R = rest x later in
-        let ρ = pos q ∷ pos H ∷ pos (s ^ 12) ∷ pos (s ^ 13) ∷ c 0 ∷ c 1 ∷ pos weights ∷ R ∷ true-sum x ∷ true-sum later ∷ [] in
+        let ρ = pos q ∷ pos H ∷ pos (s ^ 12) ∷ pos (s ^ 13) ∷ c 0 ∷ c 1 ∷ pos (weights c) ∷ R ∷ true-sum x ∷ true-sum later ∷ [] in
         ⇑ ρ (search ring depth 12)
         (omega (
           arith,
           ⇓ ρ step-is (search ring depth 12),
           ⇓ ρ divisor-is (search ring depth 12),
-          ⇓ ρ (*-nonneg {a = pos q} {b = R +ℤ pos (s ^ 12) *ℤ pos weights} nonneg rest-low) (search ring depth 12),
+          ⇓ ρ (*-nonneg {a = pos q} {b = R +ℤ pos (s ^ 12) *ℤ pos (weights c)} nonneg rest-low) (search ring depth 12),
           ⇓ ρ (*-nonneg {a = pos q *ℤ pos (s ^ 12)} nonneg slow-enough) (search ring depth 12),
         ))
 
     pub rises-little : (m : ℕ) → natAbs (c 1) ≤ m → pos H *ℤ ((c 0 *ℤ pos (s ^ 13) +ℤ true-sum later) -ℤ (c 0 *ℤ pos (s ^ 13) +ℤ true-sum x)) ⩽ (pos (2 * m) -ℤ pos (100 * H)) *ℤ pos (s ^ 13)
     rises-little m l =
         let R = rest x later in
-        let ρ = pos q ∷ pos H ∷ pos (s ^ 12) ∷ pos (s ^ 13) ∷ c 0 ∷ c 1 ∷ pos weights ∷ R ∷ true-sum x ∷ true-sum later ∷ pos m ∷ [] in
-        let room : pos 0 ⩽ pos 2 *ℤ pos m -ℤ pos 100 *ℤ pos H -ℤ c 1 -ℤ pos weights = ⇑ ρ (search ring depth 12) (omega (arith, ⇓ ρ slow-enough (search ring depth 12), ⇓ ρ (abs→ {z = c 1} m l .1) (search ring depth 12))) in
+        let ρ = pos q ∷ pos H ∷ pos (s ^ 12) ∷ pos (s ^ 13) ∷ c 0 ∷ c 1 ∷ pos (weights c) ∷ R ∷ true-sum x ∷ true-sum later ∷ pos m ∷ [] in
+        let room : pos 0 ⩽ pos 2 *ℤ pos m -ℤ pos 100 *ℤ pos H -ℤ c 1 -ℤ pos (weights c) = ⇑ ρ (search ring depth 12) (omega (arith, ⇓ ρ slow-enough (search ring depth 12), ⇓ ρ (abs→ {z = c 1} m l .1) (search ring depth 12))) in
         ⇑ ρ (search ring depth 12)
         (omega (
           arith,
           ⇓ ρ (ap (λ (z : ℤ). pos H *ℤ z) step-is) (search ring depth 12),
           ⇓ ρ (ap (λ (z : ℤ). pos m *ℤ z) divisor-is) (search ring depth 12),
           ⇓ ρ (ap (λ (z : ℤ). pos H *ℤ z) divisor-is) (search ring depth 12),
-          ⇓ ρ (*-nonneg {a = pos H *ℤ pos q} {b = pos (s ^ 12) *ℤ pos weights -ℤ R} nonneg rest-high) (search ring depth 12),
+          ⇓ ρ (*-nonneg {a = pos H *ℤ pos q} {b = pos (s ^ 12) *ℤ pos (weights c) -ℤ R} nonneg rest-high) (search ring depth 12),
           ⇓ ρ (*-nonneg {a = pos q *ℤ pos H *ℤ pos (s ^ 12)} nonneg room) (search ring depth 12),
         ))

@@ -1,10 +1,10 @@
 -- Laws of `sum`, which adds up the terms of a segment. Assumes nothing.
-use mathlib.Core.Path.{_≡_, refl, sym, ap, _∙_}
-use mathlib.Core.List.{List, [], _∷_}
+use mathlib.Core.Path.{_≡_, refl, ap, _∙_}
+use mathlib.Core.List.{[], _∷_}
 use Prim.Native.Nat.{ℕ, zero, suc, _+_, _*_, _≤_, _<_}
 use native.Mathlib.Omega.{arith}
 use native.Mathlib.Nat.{mul-le-mul-left}
-use lib.IntN.{ℤ, pos, natAbs, _+ℤ_, _-ℤ_, _*ℤ_}
+use lib.IntN.{ℤ, pos, natAbs, _+ℤ_, _*ℤ_}
 use Rattle.whole.specs.Laws.{abs-+}
 use Rattle.whole.specs.Solver.{⇑, ⇓, ring}
 use Rattle.chebyshev.specs.Segment.{sum}
@@ -13,6 +13,10 @@ use Rattle.chebyshev.specs.Segment.{sum}
 unfoldable pub sumℕ : ℕ → ℕ → (ℕ → ℕ) → ℕ
 sumℕ first zero term = 0
 sumℕ first (suc count) term = sumℕ first count term + term (first + count)
+
+-- Σ n²·|c(n)| over n = 2..13
+abbrev pub weights : (ℕ → ℤ) → ℕ
+weights c = sumℕ 2 12 (λ (n : ℕ). n * n * natAbs (c n))
 
 pub sum-pos : (first count : ℕ) (w : ℕ → ℕ) → sum first count (λ (n : ℕ). pos (w n)) ≡ pos (sumℕ first count w)
 unfolding sum sumℕ

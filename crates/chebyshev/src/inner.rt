@@ -38,7 +38,7 @@ pub fn value(x: i64, coefs: &[i64]) -> i64
     let mut here = x;
     let mut sum = coefs[1] * x;
     let mut n = 2;
-    while n < 14 {
+    while n < coefs.len() {
         let after = next(x, here, before);
         before = here;
         here = after;

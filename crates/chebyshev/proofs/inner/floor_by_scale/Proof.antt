@@ -1,18 +1,17 @@
 -- `chebyshev::inner::floor_by_scale` meets its contract. Assumes nothing.
-use mathlib.Core.Path.{_≡_, refl, sym, ap, subst, _∙_}
+use mathlib.Core.Path.{_≡_, sym, ap, subst, _∙_}
 use mathlib.Core.List.{[], _∷_}
 use native.Mathlib.Omega.{arith}
-use Prim.Native.Nat.{_/_, _<_, _^_, _≤_}
+use Prim.Native.Nat.{_/_, _≤_}
 use lib.IntN.{ℤ, pos, natAbs, _+ℤ_, _-ℤ_}
 use lib.Signed.{_≤ℤ_}
 use mir.Syntax.{w64}
 use mir.Val.{SFits, toZ, ofZ}
 use mir.Facts.{toZ-ofZ}
-use Rattle.whole.specs.Parts.{ℤ-rules}
 use Rattle.whole.specs.Laws.{abs-+}
 use Rattle.whole.specs.Floor.{floorDiv, floorDiv-fits}
 use Rattle.whole.specs.Ranges.{fits, bounds, within→, cast-need}
-use Rattle.whole.specs.Solver.{⇑, ⇓, ring}
+use Rattle.whole.specs.Solver.{⇑, ring}
 use Rattle.chebyshev.specs.Polynomials.{S}
 use Rattle.chebyshev.proofs.Shifted.{floor-shifted}
 use Rattle.chebyshev.proofs.inner.floor_by_scale.Statement.{statement}

@@ -1,10 +1,9 @@
 -- `chebyshev::inner::next` meets its contract. Assumes nothing.
-use borrow.Author.Needs.{needs}
 use mathlib.Core.Path.{_≡_, refl, ap, _∙_}
 use mathlib.Core.List.{[], _∷_}
 use native.Mathlib.Omega.{arith}
 use lib.IntN.{ℤ, pos, _*ℤ_}
-use Rattle.whole.specs.Ranges.{Within, fits, within, bounds, bound-back, bound-eq}
+use Rattle.whole.specs.Ranges.{fits, within, bounds, bound-back, bound-eq}
 use Rattle.whole.specs.Floor.{floorDiv, bound-floor}
 use Rattle.whole.specs.Solver.{⇑, ⇓, ring, value-of}
 use Rattle.chebyshev.specs.Polynomials.{S}
@@ -31,7 +30,7 @@ sub-result c = fits (search (bounds, bound-floor, bound-eq (is c)) depth 9) tt
 
 returns : tie.Need-returns
 returns c =
-    let ρ = c .floor-by-scale .result ∷ c .before .args .before ∷ floorDiv (pos 2 *ℤ c .before .args .x *ℤ c .before .args .here) S ∷ [] in
+    let ρ = c .floor-by-scale .result ∷ c .before .args .before ∷ c .before .args .here ∷ floorDiv (pos 2 *ℤ c .before .args .x *ℤ c .before .args .here) S ∷ [] in
     ⇑ ρ (search (ring, value-of ρ (sub-result c)) depth 9) (omega (arith, ⇓ ρ (is c) (search ring)))
 
 pub next-spec : {M : Type 1} → statement M

@@ -1,20 +1,18 @@
 -- `chebyshev::inner::value` meets its contract. The invariant: the two polynomials held are P(n-2) and P(n-1), and the sum runs to n - 1.
 -- Assumes nothing.
 use borrow.Author.Needs.{needs}
-use mathlib.Core.Path.{_≡_, refl, sym, ap, _∙_}
-use mathlib.Core.List.{List, [], _∷_}
-use Prim.Native.Nat.{ℕ, suc, _+_, _-_, _≤_, _<_}
+use mathlib.Core.Path.{_≡_, ap, _∙_}
+use mathlib.Core.List.{List}
+use Prim.Native.Nat.{ℕ, _-_, _≤_, _<_}
 use native.Mathlib.Omega.{arith}
-use lib.IntN.{ℤ, pos, _*ℤ_, _+ℤ_}
+use lib.IntN.{ℤ}
 use mir.Syntax.{w64}
-use mir.Val.{SFits, toZ, ofZ}
+use mir.Val.{toZ, ofZ}
 use mir.Facts.{toZ-ofZ}
-use Rattle.whole.specs.Ranges.{Within, fits, fit-hyp, within, bounds, bound-hyp}
-use Rattle.whole.specs.Floor.{floorDiv, bound-floor}
-use Rattle.whole.specs.Solver.{⇑, ⇓, ring, value-of}
-use Rattle.chebyshev.specs.Polynomials.{S, P}
+use Rattle.whole.specs.Ranges.{Within, fits, fit-hyp, within, bounds}
+use Rattle.whole.specs.Floor.{floorDiv}
+use Rattle.chebyshev.specs.Polynomials.{S}
 use Rattle.chebyshev.specs.Segment.{coefficient, InRange, value}
-use Rattle.chebyshev.specs.Bounds.{partial, partial-next, partial-small, P-next, P-small}
 use Rattle.chebyshev.proofs.Turn.{Held, held-start, held-turn, held-end, before-small, here-small, total-small, after-small, product-fits, sum-fits, result-fits}
 use Rattle.chebyshev.proofs.inner.value.Statement.{statement}
 use Rattle.chebyshev.proofs.inner.value.Tie as tie

@@ -1,10 +1,10 @@
 -- `chebyshev::inner::weight` meets its contract. Assumes nothing.
 use borrow.Author.Needs.{needs}
-use mathlib.Core.Path.{_≡_, refl, sym, ap, _∙_}
-use Prim.Native.Nat.{ℕ, _*_, _≤_, _<_}
+use mathlib.Core.Path.{_≡_, ap, _∙_}
+use Prim.Native.Nat.{ℕ, _*_, _≤_}
 use native.Mathlib.Omega.{arith}
 use native.Mathlib.Nat.{mul-le-mul}
-use lib.IntN.{ℤ, pos, natAbs}
+use lib.IntN.{pos, natAbs}
 use mir.Facts.{toZ-ofZ}
 use Rattle.chebyshev.proofs.inner.weight.Statement.{statement}
 use Rattle.chebyshev.proofs.inner.weight.Tie as tie
