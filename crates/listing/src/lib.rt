@@ -1,2 +1,3 @@
-// The listing: from the words of Sun, Moon and leap table to its lines.
+// The listing: from the words of leap table, Sun and Moon to its lines.
+mod layout;
 mod text;

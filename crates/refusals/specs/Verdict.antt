@@ -76,3 +76,10 @@ test-refuses number v e = rw e
 
 pub test-passes : {A : Type 0} {test : Bool} (number : ℕ) (v : Verdict A) → test ≡ false → v ≡ refuseWhen test number before v
 test-passes number v e = rw e
+
+-- ---- and for an answer that goes on
+pub refused-then : {A B : Type 0} {u : Verdict A} {number segment : ℕ} (f : A → Verdict B) → refused number segment ≡ u → refused number segment ≡ u then f
+refused-then f e = rw (← e)
+
+pub answered-then : {A B : Type 0} {u : Verdict A} {a : A} (f : A → Verdict B) → answered a ≡ u → f a ≡ u then f
+answered-then f e = rw (← e)
