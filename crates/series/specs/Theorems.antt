@@ -17,7 +17,7 @@ use Rattle.whole.specs.Distance.{distanceFrom, distance-is, distance-next}
 use Rattle.whole.specs.Floor.{div-step, div-wrap}
 use Rattle.chebyshev.specs.Polynomials.{S}
 use Rattle.chebyshev.specs.Segment.{value, exact, divisor, InRange}
-use Rattle.chebyshev.specs.Theorems.{divisor-positive, value-above, value-below, exact-rises, value-rises, value-rises-little}
+use Rattle.chebyshev.specs.Theorems.{divisor-positive, value-under, value-over, exact-rises, value-rises, value-rises-little}
 use Rattle.series.specs.declared.Body.{Body}
 use Rattle.series.specs.Bodies.{numbers, Lawful, lawful}
 use Rattle.series.specs.Series.{segment, segments, segmentLength, lastSecond, InSpan, segmentAt, placeAt, placeAfter, valueAt, exactAt}
@@ -127,8 +127,8 @@ module _ (body : Body) (start : ℤ) (coefs : List ℤ) (e : Accepted body start
             let r = known .ranged .in-range k k-in in
             let fast = known .fast k k-in in
             let q = numbers body .step in
-            let least = value-rises r (numbers body .halfLength) (law .long) fast q (law .exact-step) (place-within body d) (stepped-within h) in
-            let most = value-rises-little r (numbers body .halfLength) (law .long) fast q (law .exact-step) (place-within body d) (stepped-within h) in
+            let least = value-rises r (numbers body .halfLength) fast (law .long) q (law .exact-step) (place-within body d) (stepped-within h) in
+            let most = value-rises-little r (numbers body .halfLength) fast (law .long) q (law .exact-step) (place-within body d) (stepped-within h) in
             let u = value (segment coefs k) (placeAfter body d) in
             let w = value (segment coefs k) (placeAfter body d +ℤ pos q) in
             let ρ = u ∷ w ∷ pos (numbers body .mark) ∷ [] in
@@ -140,7 +140,7 @@ module _ (body : Body) (start : ℤ) (coefs : List ℤ) (e : Accepted body start
             (⇑ ρ (search ring depth 9) (omega (arith, ⇓ ρ (joint-least h) (search ring depth 9))), ⇑ ρ (search ring depth 9) (omega (arith, ⇓ ρ (joint-most h) (search ring depth 9), law .large-mark)))
 
     step-or-joint : ((exactAt body start coefs s +ℤ pos 100 *ℤ divisor) ≤ℤ exactAt body start coefs (s +ℤ pos 1)) ⊎ ((valueAt body start coefs s +ℤ pos 200) ≤ℤ valueAt body start coefs (s +ℤ pos 1))
-    step-or-joint = either (λ h. inl (rw (exact-here, inside-exact h) (exact-rises (known .ranged .in-range k k-in) (numbers body .halfLength) (law .long) (known .fast k k-in) (numbers body .step) (law .exact-step) (place-within body d) (stepped-within h)))) (λ h. inr (joint-least h))
+    step-or-joint = either (λ h. inl (rw (exact-here, inside-exact h) (exact-rises (known .ranged .in-range k k-in) (numbers body .halfLength) (known .fast k k-in) (numbers body .step) (law .exact-step) (place-within body d) (stepped-within h)))) (λ h. inr (joint-least h))
 
   -- an accepted series rises, and by less than a mark, from each second to the next
   pub accepted-rises : Rising (valueAt body start coefs) start (lastSecond body start coefs) (numbers body .mark)
@@ -155,7 +155,7 @@ module _ (body : Body) (start : ℤ) (coefs : List ℤ) (e : Accepted body start
   unfolding valueAt exactAt
   accepted-tracks = record {
     some-divisor = divisor-positive;
-    not-far-above = λ s low high. let i : InSpan body start coefs s = record { from-start = low; to-last = high } in value-above (known .ranged .in-range (segmentAt body start s) (segment-in-span body known i)) (numbers body .halfLength) (law .long) (known .fast (segmentAt body start s) (segment-in-span body known i)) (place-within body (distanceFrom start s));
-    not-far-below = λ s low high. let i : InSpan body start coefs s = record { from-start = low; to-last = high } in value-below (known .ranged .in-range (segmentAt body start s) (segment-in-span body known i)) (numbers body .halfLength) (law .long) (known .fast (segmentAt body start s) (segment-in-span body known i)) (place-within body (distanceFrom start s));
+    not-far-above = λ s low high. let i : InSpan body start coefs s = record { from-start = low; to-last = high } in value-under (known .ranged .in-range (segmentAt body start s) (segment-in-span body known i)) (numbers body .halfLength) (known .fast (segmentAt body start s) (segment-in-span body known i)) (law .long) (place-within body (distanceFrom start s));
+    not-far-below = λ s low high. let i : InSpan body start coefs s = record { from-start = low; to-last = high } in value-over (known .ranged .in-range (segmentAt body start s) (segment-in-span body known i)) (numbers body .halfLength) (known .fast (segmentAt body start s) (segment-in-span body known i)) (law .long) (place-within body (distanceFrom start s));
     steps = λ s low high. step-or-joint low high;
   }

@@ -1,0 +1,4 @@
+pub mod Halves
+pub mod Lent
+pub mod Bits
+pub mod Bracket

@@ -1,0 +1,39 @@
+-- What the two entry points answer, on paper, and what the lent list holds afterwards (document 01, "Marks" and "Refusal numbers"): 2 to 5 for the series, then
+-- 12 where the lent room has fewer places than there are marks. A place is two words, index and second. Assumes nothing: these are definitions.
+use mathlib.Core.List.{List, _++_}
+use Prim.Native.Nat.{ℕ, _/_}
+use lib.Dec.{ltb}
+use lib.ListN.{length, drop}
+use lib.IntN.{ℤ}
+use Rattle.refusals.specs.Verdict.{Verdict, answered, refused, refusal, refuseWhen, _before_}
+use Rattle.series.specs.Acceptance.{judged}
+use Rattle.series.specs.declared.Body.{Body}
+use Rattle.marks.specs.declared.CountAnswer.{CountAnswer}
+use Rattle.marks.specs.declared.CountAnswer.the-variants as count-answer
+use Rattle.marks.specs.declared.ListAnswer.{ListAnswer}
+use Rattle.marks.specs.declared.ListAnswer.the-variants as list-answer
+use Rattle.marks.specs.Listed.{listedMarks}
+use Rattle.marks.specs.Words.{words}
+
+-- the number and values of each case
+abbrev pub paperCount : CountAnswer → Verdict ℕ
+paperCount (count-answer.Marks n) = answered n
+paperCount (count-answer.Refused r) = refusal r
+
+abbrev pub paperList : ListAnswer → Verdict ℕ
+paperList (list-answer.Marks n) = answered n
+paperList (list-answer.Refused r) = refusal r
+
+module _ (body : Body) (start : ℤ) (coefs : List ℤ) where
+  -- how many marks the series lists
+  abbrev pub countedMarks : Verdict ℕ
+  countedMarks = judged body start coefs before answered (length (listedMarks body start coefs))
+
+  -- the same, where there is room for them: `room` is in words
+  abbrev pub listedInto : ℕ → Verdict ℕ
+  listedInto room = judged body start coefs before refuseWhen (ltb (room / 2) (length (listedMarks body start coefs))) 12 before answered (length (listedMarks body start coefs))
+
+-- A lent slice afterwards: as it was where the call is refused; else the words, and behind them what stood there.
+abbrev pub held : Verdict ℕ → List ℤ → List ℤ → List ℤ
+held (answered n) written out = written ++ drop (length written) out
+held (refused number segment) written out = out

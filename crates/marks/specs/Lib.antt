@@ -1,0 +1,12 @@
+pub mod Marks
+pub mod Indices
+pub mod Stretches
+pub mod Crossings
+pub mod Located
+pub mod Words
+pub mod Stretch
+pub mod ExactSum
+pub mod Listed
+pub mod Span
+pub mod Answers
+pub mod Theorems

@@ -1,0 +1,128 @@
+-- The laws of a stretch's list that the finder uses (document 01, "Marks"): two stretches that share a second, a stretch whose ends lie between the same two
+-- marks, two neighbouring seconds with a mark between them, and how many marks a stretch lists. Assumes nothing.
+use mathlib.Core.Path.{_≡_, refl, sym, ap, _∙_, subst}
+use mathlib.Core.Bool.{Bool, true, false, cond}
+use mathlib.Core.Logic.{_⊎_, ⊎-elim}
+use mathlib.Core.List.{List, [], _∷_, _++_, append-assoc, append-nil}
+use Prim.Native.Nat.{ℕ, zero, suc, _+_, _*_, _≤_, _<_}
+use native.Mathlib.Omega.{arith}
+use native.Mathlib.Nat.{zero-add, suc-add}
+use lib.ListN.{length, length-append}
+use lib.IntN.{ℤ, pos, natAbs, _+ℤ_, _-ℤ_, _*ℤ_}
+use lib.Signed.{ltZ, _≤ℤ_, _<ℤ_}
+use Rattle.whole.specs.Parts.{posPart, negPart, ℤ-rules, ≤→, →≤, <→, →<, ≡→, →≡, parts-add}
+use Rattle.whole.specs.Laws.{≤-trans, ≤-of-≡, ≤-total}
+use Rattle.whole.specs.Distance.{distanceFrom}
+use Rattle.whole.specs.Solver.{⇑, ⇓, ring, lt-yes, yes-lt, lt-no, no-lt}
+use Rattle.series.specs.Rising.{Rising}
+use Rattle.marks.specs.Marks.{Mark, indexAt, markAt, marksAfter, marks}
+use Rattle.marks.specs.Indices.{clash, next, back-one, lies-after, distance-of, distances-add, index-rises, index-rises-by-one, index-mono}
+
+-- ---- two stretches that share a second
+join-after : (v : ℤ → ℤ) (mark : ℕ) (n m : ℕ) (a b : ℤ) → b ≡ a +ℤ pos n → marksAfter v mark a n ++ marksAfter v mark b m ≡ marksAfter v mark a (n + m)
+unfolding marksAfter
+join-after v mark zero m a b e =
+    let same : b ≡ a = e ∙ →≡ (omega (arith, parts-add a (pos 0))) in
+    rw (zero-add, same)
+join-after v mark (suc n) m a b e = simp (suc-add, append-assoc, join-after v mark n m (a +ℤ pos 1) b (e ∙ next a n))
+
+pub joined : (v : ℤ → ℤ) (mark : ℕ) {a b c : ℤ} → a ≤ℤ b → b ≤ℤ c → marks v mark a b ++ marks v mark b c ≡ marks v mark a c
+unfolding marks
+joined v mark {a} {b} {c} h k =
+    rw (distances-add h k) (join-after v mark (distanceFrom a b) (distanceFrom b c) a b (lies-after h))
+
+-- ---- one second
+module _ (v : ℤ → ℤ) (mark : ℕ) (s : ℤ) where
+  pub lists-none : indexAt v mark s ≤ℤ indexAt v mark (s -ℤ pos 1) → markAt v mark s ≡ []
+  unfolding markAt
+  lists-none h = rw (no-lt h)
+
+  pub lists-one : indexAt v mark (s -ℤ pos 1) <ℤ indexAt v mark s → markAt v mark s ≡ record { index = indexAt v mark s; second = s } ∷ []
+  unfolding markAt
+  lists-one h = rw (yes-lt h)
+
+-- ---- a second lists at most one mark, so a stretch at most as many as it has seconds after the first
+at-most-one : (v : ℤ → ℤ) (mark : ℕ) (s : ℤ) → length (markAt v mark s) ≤ 1
+unfolding markAt
+at-most-one v mark s = go (ltZ (indexAt v mark (s -ℤ pos 1)) (indexAt v mark s))
+  where
+    go : (t : Bool) → length {A = Mark} (cond t (record { index = indexAt v mark s; second = s } ∷ []) []) ≤ 1
+    go true = omega arith
+    go false = omega arith
+
+few-after : (v : ℤ → ℤ) (mark : ℕ) (n : ℕ) (a : ℤ) → length (marksAfter v mark a n) ≤ n
+unfolding marksAfter
+few-after v mark zero a = omega arith
+few-after v mark (suc n) a =
+    let one = at-most-one v mark (a +ℤ pos 1) in
+    let rest = few-after v mark n (a +ℤ pos 1) in
+    rw length-append (omega arith)
+
+pub few : (v : ℤ → ℤ) (mark : ℕ) (a b : ℤ) → length (marks v mark a b) ≤ distanceFrom a b
+unfolding marks
+few v mark a b = few-after v mark (distanceFrom a b) a
+
+-- ---- what a stretch of a rising value lists
+module _ {v : ℤ → ℤ} {first last : ℤ} {mark : ℕ} (rising : Rising v first last mark) where
+  none-after : (n : ℕ) (a b : ℤ) → first ≤ℤ a → b ≤ℤ last → b ≡ a +ℤ pos n → indexAt v mark b ≤ℤ indexAt v mark a → marksAfter v mark a n ≡ []
+  unfolding marksAfter
+  none-after zero a b l h e k = refl
+  none-after (suc n) a b l h e k =
+      let p = parts-add a (pos 1) in
+      let q = parts-add a (pos (suc n)) in
+      let e′ : b ≡ (a +ℤ pos 1) +ℤ pos n = e ∙ next a n in
+      let q′ = parts-add (a +ℤ pos 1) (pos n) in
+      let l′ : first ≤ℤ (a +ℤ pos 1) = omega ℤ-rules in
+      let up : indexAt v mark a ≤ℤ indexAt v mark (a +ℤ pos 1) = index-rises rising a l (omega ℤ-rules) in
+      let up′ : indexAt v mark (a +ℤ pos 1) ≤ℤ indexAt v mark b = index-mono rising l′ (omega ℤ-rules) h in
+      let here : indexAt v mark (a +ℤ pos 1) ≤ℤ indexAt v mark ((a +ℤ pos 1) -ℤ pos 1) = rw (back-one a) (≤-trans up′ k) in
+      rw (lists-none v mark (a +ℤ pos 1) here, none-after n (a +ℤ pos 1) b l′ h e′ (≤-trans k up))
+
+  -- "A stretch whose end values lie between the same two marks holds none"
+  pub none : {a b : ℤ} → first ≤ℤ a → a ≤ℤ b → b ≤ℤ last → indexAt v mark a ≡ indexAt v mark b → marks v mark a b ≡ []
+  unfolding marks
+  none {a} {b} l o h e = none-after (distanceFrom a b) a b l h (lies-after o) (≤-of-≡ (sym e))
+
+  -- "two neighbouring seconds with a mark between them give that mark"
+  pub neighbours : (a b : ℤ) → b ≡ a +ℤ pos 1 → indexAt v mark a <ℤ indexAt v mark b → marks v mark a b ≡ record { index = indexAt v mark b; second = b } ∷ []
+  unfolding marks marksAfter
+  neighbours a b e h =
+      rw (distance-of a b 1 e, sym e, append-nil)
+      (lists-one v mark b (rw (e, back-one a) (rw e at h)))
+
+  -- from a second to the next the index rises by what is listed there
+  one-length : (s : ℤ) → first ≤ℤ s → s <ℤ last → indexAt v mark (s +ℤ pos 1) ≡ indexAt v mark s +ℤ pos (length (markAt v mark (s +ℤ pos 1)))
+  one-length s l h =
+      ⊎-elim
+      (λ (k : indexAt v mark (s +ℤ pos 1) ≤ℤ indexAt v mark s).
+        let up = index-rises rising s l h in
+        let p = parts-add (indexAt v mark s) (pos 0) in
+        rw (lists-none v mark (s +ℤ pos 1) (rw (back-one s) k)) (omega ℤ-rules))
+      (λ (k : indexAt v mark s <ℤ indexAt v mark (s +ℤ pos 1)).
+        let up = index-rises-by-one rising s l h in
+        let p = parts-add (indexAt v mark s) (pos 1) in
+        rw (lists-one v mark (s +ℤ pos 1) (rw (back-one s) k)) (omega ℤ-rules))
+      (≤-total (indexAt v mark (s +ℤ pos 1)) (indexAt v mark s))
+
+  length-after : (n : ℕ) (a b : ℤ) → first ≤ℤ a → b ≤ℤ last → b ≡ a +ℤ pos n → indexAt v mark b ≡ indexAt v mark a +ℤ pos (length (marksAfter v mark a n))
+  unfolding marksAfter
+  length-after zero a b l h e =
+      let same : b ≡ a = e ∙ →≡ (omega (arith, parts-add a (pos 0))) in
+      let p = parts-add (indexAt v mark a) (pos 0) in
+      rw same (→≡ (omega arith))
+  length-after (suc n) a b l h e =
+      let p = parts-add a (pos 1) in
+      let q = parts-add a (pos (suc n)) in
+      let l′ : first ≤ℤ (a +ℤ pos 1) = omega ℤ-rules in
+      let here : indexAt v mark (a +ℤ pos 1) ≡ indexAt v mark a +ℤ pos (length (markAt v mark (a +ℤ pos 1))) = one-length a l (omega ℤ-rules) in
+      let rest : indexAt v mark b ≡ indexAt v mark (a +ℤ pos 1) +ℤ pos (length (marksAfter v mark (a +ℤ pos 1) n)) = length-after n (a +ℤ pos 1) b l′ h (e ∙ next a n) in
+      rw length-append
+      (rest ∙ sums (indexAt v mark a) (indexAt v mark (a +ℤ pos 1)) (length (markAt v mark (a +ℤ pos 1))) (length (marksAfter v mark (a +ℤ pos 1) n)) here)
+    where
+      sums : (x y : ℤ) (m k : ℕ) → y ≡ x +ℤ pos m → y +ℤ pos k ≡ x +ℤ pos (m + k)
+      sums x y m k e = omega (ℤ-rules, parts-add x (pos m), parts-add y (pos k), parts-add x (pos (m + k)))
+
+  -- a stretch lists as many marks as its index rises by
+  pub length-is : {a b : ℤ} → first ≤ℤ a → a ≤ℤ b → b ≤ℤ last → length (marks v mark a b) ≡ distanceFrom (indexAt v mark a) (indexAt v mark b)
+  unfolding marks
+  length-is {a} {b} l o h = sym (distance-of (indexAt v mark a) (indexAt v mark b) (length (marksAfter v mark a (distanceFrom a b))) (length-after (distanceFrom a b) a b l h (lies-after o)))
