@@ -2,7 +2,7 @@
 ghost use mathlib.Core.Path.{_≡_};
 ghost use mathlib.Core.Bool.{true};
 ghost use Rattle.chebyshev.specs.Segment.{InRange};
-ghost use Rattle.chebyshev_bench.specs.Places.{Filled};
+ghost use Rattle.chebyshev_bench.specs.Places.{valueOrZero, Filled};
 
 // Whether a segment's coefficients are in range (refusal 3).
 fn in_range(coefs: &[i64]) -> bool
@@ -22,26 +22,36 @@ fn in_range(coefs: &[i64]) -> bool
     true
 }
 
-// Fills `out` with the values at the segment's beginning and at every 48th place after it. Refuses, and writes nothing, where the coefficients
-// are not fourteen in range, or the places run past the segment's end.
+// The value at a place, or 0 outside the segment.
+fn at(x: i64, coefs: &[i64]) -> i64
+    requires { do ⌜ (← ⟦coefs.len()⟧) ≡ 14 ⌝ }
+    requires { ⌜ InRange (now coefs) ⌝ }
+    ensures { λ r. ⌜ r ≡ valueOrZero (now (coefs .entry)) x ⌝ }
+{
+    if whole::absolute(x) > 66355200 {
+        return 0;
+    }
+    chebyshev::inner::value(x, coefs)
+}
+
+// Fills `out` with the values at the places lent. Refuses, and writes nothing, where the coefficients are not fourteen in range, or there are
+// not as many places as room.
 #[no_mangle]
-pub extern "C" fn chebyshev_places(out: &mut [i64], coefs: &[i64]) -> bool
-    ensures { λ r. ⌜ Filled r (now (coefs .entry)) (now (out .entry)) (now (out .exit)) ⌝ }
+pub extern "C" fn chebyshev_values(out: &mut [i64], coefs: &[i64], places: &[i64]) -> bool
+    ensures { λ r. ⌜ Filled r (now (coefs .entry)) (now (places .entry)) (now (out .entry)) (now (out .exit)) ⌝ }
 {
     if coefs.len() != 14 {
         return false;
     }
-    if out.len() > 2764801 {
+    if places.len() != out.len() {
         return false;
     }
     if !in_range(coefs) {
         return false;
     }
-    let mut x: i64 = -66355200;
     let mut i = 0;
     while i < out.len() {
-        out[i] = chebyshev::inner::value(x, coefs);
-        x += 48;
+        out[i] = at(places[i], coefs);
         i += 1;
     }
     true

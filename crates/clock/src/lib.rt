@@ -1,4 +1,132 @@
-// The counts of time: a TDB second from 2000-01-01 00:00:00 TDB, and a UTC+8 millisecond from 2000-01-01 00:00 UTC+8.
+// The clock: from TDB seconds by a leap table to UTC+8 milliseconds, days and shown times (document 01, "Three counts of time").
+use dates::{Date, Day, DayAnswer};
+use refusals::{Check, Refusal};
+
+ghost use mathlib.Core.Path.{_≡_};
+ghost use Rattle.refusals.specs.Verdict.{paperCheck};
+ghost use Rattle.dates.specs.Answers.{paperDay};
+ghost use Rattle.clock.specs.Clock.{dayOfMilli};
+ghost use Rattle.clock.specs.Answers.{leapJudged, milliOf, dayOfSecond, shownOf, paperMilli, paperShown};
+
+pub mod inner;
+
+// A TDB second, counted from 2000-01-01 00:00:00 TDB.
 pub struct Second(pub i64);
 
+// A UTC+8 millisecond, counted from 2000-01-01 00:00 UTC+8.
 pub struct Milli(pub i64);
+
+// A time as it is shown.
+pub struct ShownTime {
+    pub date: Date,
+    pub hour: i64,
+    pub minute: i64,
+    pub second: i64,
+    pub millisecond: i64,
+}
+
+pub enum MilliAnswer {
+    Found(Milli),
+    Refused(Refusal),
+}
+
+pub enum ShownAnswer {
+    Found(ShownTime),
+    Refused(Refusal),
+}
+
+// Whether a leap table keeps its rule.
+pub fn judge_leap_table(leap: &[i64]) -> Check
+    ensures { λ r. ⌜ paperCheck r ≡ leapJudged (now (leap .entry)) ⌝ }
+{
+    if inner::lawful(leap) {
+        return Check::Accepted;
+    }
+    Check::Refused(Refusal {
+        number: 1,
+        segment: 0,
+    })
+}
+
+// The day of a millisecond.
+pub fn day_of_milli(milli: Milli) -> Day
+    ensures { λ r. ⌜ r ≡ dayOfMilli milli ⌝ }
+{
+    let m = milli.0;
+    Day(whole::inner::floor_div(m, 86400000))
+}
+
+// The UTC+8 millisecond of a second.
+pub fn milli_of(leap: &[i64], second: Second) -> MilliAnswer
+    ensures { λ r. ⌜ paperMilli r ≡ milliOf (now (leap .entry)) second ⌝ }
+{
+    if !inner::lawful(leap) {
+        return MilliAnswer::Refused(Refusal {
+            number: 1,
+            segment: 0,
+        });
+    }
+    if !inner::convertible(second) {
+        return MilliAnswer::Refused(Refusal {
+            number: 6,
+            segment: 0,
+        });
+    }
+    if !inner::held_from(leap, second) {
+        return MilliAnswer::Refused(Refusal {
+            number: 7,
+            segment: 0,
+        });
+    }
+    MilliAnswer::Found(inner::milli_in(leap, second, 480))
+}
+
+// The UTC+8 day of a second.
+pub fn day_of_second(leap: &[i64], second: Second) -> DayAnswer
+    ensures { λ r. ⌜ paperDay r ≡ dayOfSecond (now (leap .entry)) second ⌝ }
+{
+    if !inner::lawful(leap) {
+        return DayAnswer::Refused(Refusal {
+            number: 1,
+            segment: 0,
+        });
+    }
+    if !inner::convertible(second) {
+        return DayAnswer::Refused(Refusal {
+            number: 6,
+            segment: 0,
+        });
+    }
+    if !inner::held_from(leap, second) {
+        return DayAnswer::Refused(Refusal {
+            number: 7,
+            segment: 0,
+        });
+    }
+    DayAnswer::Found(inner::day_in(leap, second, 480))
+}
+
+// The UTC+8 time of a second, as it is shown.
+pub fn shown(leap: &[i64], second: Second) -> ShownAnswer
+    ensures { λ r. ⌜ paperShown r ≡ shownOf (now (leap .entry)) second ⌝ }
+{
+    if !inner::lawful(leap) {
+        return ShownAnswer::Refused(Refusal {
+            number: 1,
+            segment: 0,
+        });
+    }
+    if !inner::convertible(second) {
+        return ShownAnswer::Refused(Refusal {
+            number: 6,
+            segment: 0,
+        });
+    }
+    if !inner::held_from(leap, second) {
+        return ShownAnswer::Refused(Refusal {
+            number: 7,
+            segment: 0,
+        });
+    }
+    ShownAnswer::Found(inner::shown_in(leap, second, 480))
+}

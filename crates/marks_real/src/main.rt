@@ -21,10 +21,14 @@ fn mixed(sum: u64, word: i64) -> u64
     (sum * 31 + rest) % 1000000007
 }
 
-fn checksum(words: &[i64]) -> u64 {
+// Of the first n marks.
+fn checksum(words: &[i64], n: usize) -> u64 {
     let mut sum: u64 = 0;
     let mut i = 0;
     while i < words.len() {
+        if n <= i / 2 {
+            return sum;
+        }
         sum = mixed(sum, words[i]);
         i += 1;
     }
@@ -37,10 +41,9 @@ fn report(letter: &[u8], body: Body, start: i64, coefs: &[i64]) {
     match marks::list_marks(body, Second(start), coefs, &mut out) {
         ListAnswer::Marks(n) => {
             let marks = n as u64;
-            let words = if n <= 1024 { 2 * n } else { 2048 };
             io::print_decimal(1, marks);
             io::write_all(1, b" marks, checksum ");
-            io::print_decimal(1, checksum(&out[..words]));
+            io::print_decimal(1, checksum(&out, n));
         }
         ListAnswer::Refused(r) => {
             io::write_all(1, b"refused ");

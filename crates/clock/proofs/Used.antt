@@ -1,0 +1,54 @@
+-- The entry used: an entry that does not hold has none after it that does, so that the last is found by bisection. Assumes nothing.
+use Prim.Native.Nat.{ℕ, zero, suc, _+_, _*_, _/_, _-_, _<_, _≤_}
+use mathlib.Core.Path.{_≡_, refl, sym, ap, _∙_, subst}
+use mathlib.Core.Bool.{Bool, true, false}
+use mathlib.Core.List.{List, [], _∷_}
+use native.Mathlib.Omega.{arith}
+use lib.IntN.{ℤ, pos, negsuc, _+ℤ_, _-ℤ_, _*ℤ_}
+use lib.Signed.{leZ, ltZ, _≤ℤ_, _<ℤ_}
+use lib.ListN.{length}
+use Rattle.whole.specs.Parts.{_⩽_, _≺_}
+use Rattle.whole.specs.Solver.{⇑, ⇓, ring, le-yes, le-no, yes-le, no-le}
+use Rattle.refusals.specs.Verdict.{Verdict, answered, refused}
+use Rattle.whole.specs.Laws.{<-≤-trans}
+use Rattle.clock.specs.Leap.{lawful, entries, holdsFrom, holds, last, entryUsed}
+use Rattle.clock.proofs.Search.{Last, last-is, last-none, last-says}
+use Rattle.clock.proofs.Table.{some, moments-in-order}
+
+-- what does not hold by then, does not hold later in the table either
+pub not-later : (w : List ℤ) (t : ℤ) → lawful w ≡ true → (i k : ℕ) → i ≤ k → k < entries w → holds w t i ≡ false → holds w t k ≡ false
+unfolding holds
+not-later w t l i k h m e =
+    let o = moments-in-order w l i k h m in
+    let a : t ≺ holdsFrom w i = le-no {a = holdsFrom w i} {b = t} e in
+    no-le {a = holdsFrom w k} {b = t} (<-≤-trans a o)
+
+-- `low` holds by then, nothing from `high` on does
+pub record Bracket (w : List ℤ) (t : ℤ) (low high : ℕ) : Type 0 where
+  pub ordered : low < high
+  pub inside : high ≤ entries w
+  pub here : holds w t low ≡ true
+  pub none-after : (k : ℕ) → high ≤ k → k < entries w → holds w t k ≡ false
+
+pub bracket : (w : List ℤ) (t : ℤ) → lawful w ≡ true → holds w t 0 ≡ true → Bracket w t 0 (entries w)
+bracket w t l h = record { ordered = some w l; inside = omega arith; here = h; none-after = λ k p q. absurd (omega arith) }
+
+module _ {w : List ℤ} {t : ℤ} {low high : ℕ} where
+  pub raise : {middle : ℕ} → Bracket w t low high → low < middle → middle < high → holds w t middle ≡ true → Bracket w t middle high
+  raise b p q e = record { ordered = q; inside = b .inside; here = e; none-after = b .none-after }
+
+  pub lower : {middle : ℕ} → lawful w ≡ true → Bracket w t low high → low < middle → middle < high → holds w t middle ≡ false → Bracket w t low middle
+  lower {middle} l b p q e = record { ordered = p; inside = omega (arith, b .inside); here = b .here; none-after = λ k m n. not-later w t l middle k m n e }
+
+  pub found : Bracket w t low high → high ≤ low + 1 → entryUsed w t ≡ answered low
+  unfolding entryUsed
+  found b h = last-is (holds w t) (entries w) low (record { below = omega (arith, b .ordered, b .inside); here = b .here; none-after = λ k p q. b .none-after k (omega (arith, b .ordered)) q })
+
+-- none, where the first does not hold
+pub none-used : (w : List ℤ) (t : ℤ) → lawful w ≡ true → holds w t 0 ≡ false → entryUsed w t ≡ refused 7 0
+unfolding entryUsed
+none-used w t l e = last-none (holds w t) (entries w) (λ k h. not-later w t l 0 k (omega arith) h e)
+
+pub used-says : (w : List ℤ) (t : ℤ) (i : ℕ) → entryUsed w t ≡ answered i → Last (holds w t) (entries w) i
+unfolding entryUsed
+used-says w t i e = last-says (holds w t) (entries w) i e

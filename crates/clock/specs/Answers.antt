@@ -1,0 +1,45 @@
+-- What the entry points of this crate answer: 1 for a leap table that breaks its rule, then 6 for a second outside the conversion range, then 7
+-- for an instant before the first entry (document 01, "Refusal numbers"). Assumes nothing: these are definitions.
+use mathlib.Core.Bool.{Bool, not}
+use mathlib.Core.List.{List}
+use lib.IntN.{ℤ, pos}
+use Rattle.refusals.specs.Verdict.{Verdict, answered, refusal, refuseWhen, _before_}
+use Rattle.dates.specs.declared.Day.{Day}
+use Rattle.clock.specs.declared.Second.{Second}
+use Rattle.clock.specs.declared.Milli.{Milli}
+use Rattle.clock.specs.declared.ShownTime.{ShownTime}
+use Rattle.clock.specs.declared.MilliAnswer.{MilliAnswer}
+use Rattle.clock.specs.declared.ShownAnswer.{ShownAnswer}
+use Rattle.clock.specs.declared.MilliAnswer.the-variants as milli
+use Rattle.clock.specs.declared.ShownAnswer.the-variants as shown
+use Rattle.clock.specs.Leap.{lawful}
+use Rattle.clock.specs.Clock.{convertible, milliIn, dayIn, shownIn}
+
+-- the zone of UTC+8, in minutes
+abbrev pub utc8 : ℤ
+utc8 = pos 480
+
+unfoldable pub leapJudged : List ℤ → Verdict (Unit {0})
+leapJudged leap = refuseWhen (not (lawful leap)) 1
+
+-- what must hold before a second is converted
+unfoldable pub judged : List ℤ → Second → Verdict (Unit {0})
+judged leap s = leapJudged leap before refuseWhen (not (convertible s)) 6
+
+unfoldable pub milliOf : List ℤ → Second → Verdict Milli
+milliOf leap s = judged leap s before milliIn leap s utc8
+
+unfoldable pub dayOfSecond : List ℤ → Second → Verdict Day
+dayOfSecond leap s = judged leap s before dayIn leap s utc8
+
+unfoldable pub shownOf : List ℤ → Second → Verdict ShownTime
+shownOf leap s = judged leap s before shownIn leap s utc8
+
+-- what the answers say on paper
+abbrev pub paperMilli : MilliAnswer → Verdict Milli
+paperMilli (milli.Found m) = answered m
+paperMilli (milli.Refused r) = refusal r
+
+abbrev pub paperShown : ShownAnswer → Verdict ShownTime
+paperShown (shown.Found s) = answered s
+paperShown (shown.Refused r) = refusal r

@@ -1,0 +1,3 @@
+pub mod Leap
+pub mod Clock
+pub mod Answers
