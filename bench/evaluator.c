@@ -19,25 +19,33 @@ int printf(const char *, ...);
 /* the proved library */
 bool chebyshev_values(int64_t *out, size_t room, const int64_t *coefs, size_t count, const int64_t *places, size_t number);
 
-static inline int64_t floor_same(int64_t t) {
+static inline int64_t same_step(int64_t t) {
+    return (int64_t)((uint64_t)(t + 17812088369971200) / SCALE) - 268435456;
+}
+
+static inline int64_t same_sum(int64_t t) {
     return (int64_t)((uint64_t)(t + 4611686400000000000) / SCALE) - 69500000000;
 }
 
-static inline int64_t floor_plain(int64_t t) {
+static inline int64_t plain_step(int64_t t) {
     int64_t q = t / SCALE;
     return t % SCALE < 0 ? q - 1 : q;
 }
 
-#define EVALUATOR(NAME, FLOOR)                                                                       \
+static inline int64_t plain_sum(int64_t t) {
+    return plain_step(t);
+}
+
+#define EVALUATOR(NAME)                                                                              \
     static inline int64_t NAME##_value(int64_t x, const int64_t *c) {                                \
         int64_t before = SCALE, here = x, sum = c[1] * x;                                            \
         for (size_t n = 2; n < 14; n++) {                                                            \
-            int64_t after = FLOOR(2 * x * here) - before;                                            \
+            int64_t after = NAME##_step(2 * x * here) - before;                                      \
             before = here;                                                                           \
             here = after;                                                                            \
             sum += c[n] * here;                                                                      \
         }                                                                                            \
-        return c[0] + FLOOR(sum);                                                                    \
+        return c[0] + NAME##_sum(sum);                                                               \
     }                                                                                                \
     __attribute__((noinline)) static bool NAME##_values(int64_t *out, size_t room, const int64_t *c, \
             size_t count, const int64_t *places, size_t number) {                                    \
@@ -49,8 +57,8 @@ static inline int64_t floor_plain(int64_t t) {
         return 1;                                                                                    \
     }
 
-EVALUATOR(same, floor_same)
-EVALUATOR(plain, floor_plain)
+EVALUATOR(same)
+EVALUATOR(plain)
 
 static double now(void) {
     struct timespec t;

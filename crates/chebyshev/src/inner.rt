@@ -9,8 +9,17 @@ ghost use Rattle.chebyshev.specs.Polynomials.{S};
 ghost use Rattle.chebyshev.specs.Segment.{InRange};
 ghost use Rattle.chebyshev.specs.Segment as segment;
 
-// A number divided by the scale and rounded down. 69,500,000,000 times the scale is added first, so that an unsigned division does it.
-fn floor_by_scale(t: i64) -> i64
+// A step's product divided by the scale and rounded down. 268,435,456 times the scale is added first, so that an unsigned division by a
+// constant does it, without a branch; that is a multiplication and a shift.
+fn floor_of_step(t: i64) -> i64
+    requires { ⌜ Within 8900000000000000 t ⌝ }
+    ensures { λ r. ⌜ r ≡ floorDiv t S ⌝ }
+{
+    ((t + 17812088369971200) as u64 / 66355200) as i64 - 268435456
+}
+
+// The same for the sum, which is larger: 69,500,000,000 times the scale. A step adds less because its smaller number costs less.
+fn floor_of_sum(t: i64) -> i64
     requires { ⌜ Within 4000000000000000000 t ⌝ }
     ensures { λ r. ⌜ r ≡ floorDiv t S ⌝ }
 {
@@ -24,7 +33,7 @@ fn next(x: i64, here: i64, before: i64) -> i64
     requires { ⌜ Within 66355278 before ⌝ }
     ensures { λ r. ⌜ r ≡ floorDiv (pos 2 *ℤ x *ℤ here) S -ℤ before ⌝ }
 {
-    floor_by_scale(2 * x * here) - before
+    floor_of_step(2 * x * here) - before
 }
 
 // The value at the place x: one pass that holds two polynomials and the sum.
@@ -45,7 +54,7 @@ pub fn value(x: i64, coefs: &[i64]) -> i64
         sum += coefs[n] * here;
         n += 1;
     }
-    coefs[0] + floor_by_scale(sum)
+    coefs[0] + floor_of_sum(sum)
 }
 
 // n² times the size of a coefficient.

@@ -41,7 +41,7 @@ shownOfMilli m =
       hour = pos (rest / 3600000);
       minute = pos (rest / 60000 % 60);
       second = pos (rest / 1000 % 60);
-      millisecond = pos (rest % 1000)
+      millisecond = pos (rest % 1000);
     }
 
 unfoldable pub dayIn : List ℤ → Second → ℤ → Verdict Day

@@ -1,9 +1,15 @@
 // The parts of the entry points. Those with a `requires` are for callers that have judged the table and the second: they judge nothing again.
 // The zone is in minutes.
-use super::{Milli, Second, ShownTime};
+use super::Milli;
+use super::Second;
+use super::ShownTime;
 use dates::Day;
-use whole::inner::{add, count, floor_mod, multiply, signed, subtract};
-
+use whole::inner::add;
+use whole::inner::count;
+use whole::inner::floor_mod;
+use whole::inner::multiply;
+use whole::inner::signed;
+use whole::inner::subtract;
 ghost use mathlib.Core.Path.{_≡_};
 ghost use mathlib.Core.Bool.{true};
 ghost use Prim.Native.Nat.{suc, _+_, _*_, _<_, _≤_};
@@ -61,7 +67,12 @@ fn good_after(leap: &[i64], i: usize) -> bool
     requires { ⌜ 2 * i + 3 < length (now leap) ⌝ }
     ensures { λ r. ⌜ r ≡ goodEntry (now (leap .entry)) (suc i) ⌝ }
 {
-    next_entry(leap[2 * i], leap[2 * i + 1], leap[2 * i + 2], leap[2 * i + 3])
+    next_entry(
+        leap[2 * i],
+        leap[2 * i + 1],
+        leap[2 * i + 2],
+        leap[2 * i + 3],
+    )
 }
 
 // Whether a leap table keeps its rule.

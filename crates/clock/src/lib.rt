@@ -1,7 +1,9 @@
 // The clock: from TDB seconds by a leap table to UTC+8 milliseconds, days and shown times (document 01, "Three counts of time").
-use dates::{Date, Day, DayAnswer};
-use refusals::{Check, Refusal};
-
+use dates::Date;
+use dates::Day;
+use dates::DayAnswer;
+use refusals::Check;
+use refusals::Refusal;
 ghost use mathlib.Core.Path.{_≡_};
 ghost use Rattle.refusals.specs.Verdict.{paperCheck};
 ghost use Rattle.dates.specs.Answers.{paperDay};

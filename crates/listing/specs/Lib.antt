@@ -1,3 +1,5 @@
-pub mod Text
 pub mod Layout
 pub mod Parts
+pub mod Listing
+pub mod Lines
+pub mod Nth

@@ -1,3 +1,3 @@
 // The listing: from the words of leap table, Sun and Moon to its lines.
 mod layout;
-mod text;
+mod lines;

@@ -104,10 +104,10 @@ whole-span {v} {mark} {first} {last} {j} {below} {above} rising o low high e f d
     let under : v first <ℤ (j *ℤ pos mark) = ahead v mark (rising .some-mark) j first low in
     let reaching : (j *ℤ pos mark) ≤ℤ v last = reached v mark (rising .some-mark) j last high in
     let apart : first <ℤ last =
-        ⊎-elim
-        (λ (h : last ≤ℤ first). absurd (clash low (subst (λ (s : ℤ). j ≤ℤ indexAt v mark s) (≤-antisymm h o) high)))
-        (λ (h : first <ℤ last). h)
-        (≤-total last first)
+    ⊎-elim
+    (λ (h : last ≤ℤ first). absurd (clash low (subst (λ (s : ℤ). j ≤ℤ indexAt v mark s) (≤-antisymm h o) high)))
+    (λ (h : first <ℤ last). h)
+    (≤-total last first)
     in
     record {
       from-first = →≤ (omega arith);

@@ -64,16 +64,16 @@ module _ {v : ℤ → ℤ} {first last : ℤ} {mark : ℕ} (rising : Rising v fi
       let q = parts-add a (pos (suc n)) in
       ⊎-elim
       (λ (here : m ∈ markAt v mark (a +ℤ pos 1)).
-        let w = in-one v mark (a +ℤ pos 1) m here in
-        subst (λ (k : Mark). Crossing v mark a b k) (sym (w .0))
-        (record {
-          after-first = omega ℤ-rules;
-          by-last = omega ℤ-rules;
-          less-before = ahead v mark (rising .some-mark) (indexAt v mark (a +ℤ pos 1)) ((a +ℤ pos 1) -ℤ pos 1) (w .1);
-          reached-here = reached v mark (rising .some-mark) (indexAt v mark (a +ℤ pos 1)) (a +ℤ pos 1) (→≤ (omega arith));
-        }))
+      let w = in-one v mark (a +ℤ pos 1) m here in
+      subst (λ (k : Mark). Crossing v mark a b k) (sym (w .0))
+      (record {
+        after-first = omega ℤ-rules;
+        by-last = omega ℤ-rules;
+        less-before = ahead v mark (rising .some-mark) (indexAt v mark (a +ℤ pos 1)) ((a +ℤ pos 1) -ℤ pos 1) (w .1);
+        reached-here = reached v mark (rising .some-mark) (indexAt v mark (a +ℤ pos 1)) (a +ℤ pos 1) (→≤ (omega arith));
+      }))
       (λ (later : m ∈ marksAfter v mark (a +ℤ pos 1) n).
-        sooner (only-crossings n (a +ℤ pos 1) b (omega ℤ-rules) h (e ∙ next a n) m later))
+      sooner (only-crossings n (a +ℤ pos 1) b (omega ℤ-rules) h (e ∙ next a n) m later))
       (List·Memᴰ·append-cases (markAt v mark (a +ℤ pos 1)) i)
 
   all-crossings : (n : ℕ) (a b : ℤ) → first ≤ℤ a → b ≤ℤ last → b ≡ a +ℤ pos n → (m : Mark) → Crossing v mark a b m → m ∈ marksAfter v mark a n
@@ -90,19 +90,19 @@ module _ {v : ℤ → ℤ} {first last : ℤ} {mark : ℕ} (rising : Rising v fi
       let y = c .by-last in
       ⊎-elim
       (λ (k : m .second ≤ℤ (a +ℤ pos 1)).
-        let at : m .second ≡ a +ℤ pos 1 = omega ℤ-rules in
-        let low : indexAt v mark a <ℤ m .index = not-reached v mark (rising .some-mark) (m .index) a (rw (at, back-one a) at (c .less-before)) in
-        let high : m .index ≤ℤ indexAt v mark (a +ℤ pos 1) = reaches v mark (rising .some-mark) (m .index) (a +ℤ pos 1) (rw at at (c .reached-here)) in
-        let near = index-rises-by-one rising a l (omega ℤ-rules) in
-        let r = parts-add (indexAt v mark a) (pos 1) in
-        let is : m .index ≡ indexAt v mark (a +ℤ pos 1) = omega ℤ-rules in
-        Memᴰ·append-left {s = markAt v mark (a +ℤ pos 1)} (marksAfter v mark (a +ℤ pos 1) n)
-        (rw (lists-one v mark (a +ℤ pos 1) (rw (back-one a) (<-≤-trans low high)))
-        (List·Memᴰ·head (ap₂ marked is at))))
+      let at : m .second ≡ a +ℤ pos 1 = omega ℤ-rules in
+      let low : indexAt v mark a <ℤ m .index = not-reached v mark (rising .some-mark) (m .index) a (rw (at, back-one a) at (c .less-before)) in
+      let high : m .index ≤ℤ indexAt v mark (a +ℤ pos 1) = reaches v mark (rising .some-mark) (m .index) (a +ℤ pos 1) (rw at at (c .reached-here)) in
+      let near = index-rises-by-one rising a l (omega ℤ-rules) in
+      let r = parts-add (indexAt v mark a) (pos 1) in
+      let is : m .index ≡ indexAt v mark (a +ℤ pos 1) = omega ℤ-rules in
+      Memᴰ·append-left {s = markAt v mark (a +ℤ pos 1)} (marksAfter v mark (a +ℤ pos 1) n)
+      (rw (lists-one v mark (a +ℤ pos 1) (rw (back-one a) (<-≤-trans low high)))
+      (List·Memᴰ·head (ap₂ marked is at))))
       (λ (k : (a +ℤ pos 1) <ℤ m .second).
-        Memᴰ·append-right (markAt v mark (a +ℤ pos 1))
-        (all-crossings n (a +ℤ pos 1) b (omega ℤ-rules) h (e ∙ next a n) m
-        (record { after-first = k; by-last = y; less-before = c .less-before; reached-here = c .reached-here })))
+      Memᴰ·append-right (markAt v mark (a +ℤ pos 1))
+      (all-crossings n (a +ℤ pos 1) b (omega ℤ-rules) h (e ∙ next a n) m
+      (record { after-first = k; by-last = y; less-before = c .less-before; reached-here = c .reached-here })))
       (≤-total (m .second) (a +ℤ pos 1))
 
   order-after : (n : ℕ) (a b : ℤ) → first ≤ℤ a → b ≤ℤ last → b ≡ a +ℤ pos n → InTimeOrder (marksAfter v mark a n)
@@ -115,16 +115,18 @@ module _ {v : ℤ → ℤ} {first last : ℤ} {mark : ℕ} (rising : Rising v fi
       let rest : InTimeOrder (marksAfter v mark (a +ℤ pos 1) n) = order-after n (a +ℤ pos 1) b l′ h (e ∙ next a n) in
       ⊎-elim
       (λ (k : indexAt v mark (a +ℤ pos 1) ≤ℤ indexAt v mark a).
-        rw (lists-none v mark (a +ℤ pos 1) (rw (back-one a) k)) rest)
+      rw (lists-none v mark (a +ℤ pos 1) (rw (back-one a) k)) rest)
       (λ (k : indexAt v mark a <ℤ indexAt v mark (a +ℤ pos 1)).
-        rw (lists-one v mark (a +ℤ pos 1) (rw (back-one a) k))
-        (λ m i.
-          let c = only-crossings n (a +ℤ pos 1) b l′ h (e ∙ next a n) m i in
-          let x = c .after-first in
-          let y = c .by-last in
-          let z = one-before (m .second) in
-          let low : indexAt v mark (m .second -ℤ pos 1) <ℤ m .index = not-reached v mark (rising .some-mark) (m .index) (m .second -ℤ pos 1) (c .less-before) in
-          (x, ≤-<-trans (index-mono rising l′ (omega ℤ-rules) (omega ℤ-rules)) low), rest))
+      rw (lists-one v mark (a +ℤ pos 1) (rw (back-one a) k)) (
+        λ m i.
+            let c = only-crossings n (a +ℤ pos 1) b l′ h (e ∙ next a n) m i in
+            let x = c .after-first in
+            let y = c .by-last in
+            let z = one-before (m .second) in
+            let low : indexAt v mark (m .second -ℤ pos 1) <ℤ m .index = not-reached v mark (rising .some-mark) (m .index) (m .second -ℤ pos 1) (c .less-before) in
+            (x, ≤-<-trans (index-mono rising l′ (omega ℤ-rules) (omega ℤ-rules)) low),
+        rest,
+      ))
       (≤-total (indexAt v mark (a +ℤ pos 1)) (indexAt v mark a))
 
   -- ---- the theorems

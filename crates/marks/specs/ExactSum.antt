@@ -61,11 +61,11 @@ module _ (v v′ e e′ t divisor : ℤ) (some-divisor : pos 0 <ℤ divisor)
     value-under h =
         ⊎-elim
         (λ (k : t ≤ℤ v).
-          let s = scaled k in
-          absurd (⊎-elim
-          (λ (r : (e +ℤ pos 100 *ℤ divisor) ≤ℤ e′). omega (arith, ⇓ ρ r (search ring depth 9), ⇓ ρ some-divisor (search ring depth 9), ⇓ ρ s (search ring depth 9), ⇓ ρ above (search ring depth 9), ⇓ ρ h (search ring depth 9)))
-          (λ (r : (v +ℤ pos 200) ≤ℤ v′). omega (arith, ⇓ ρ (scaled r) (search ring depth 9), ⇓ ρ some-divisor (search ring depth 9), ⇓ ρ s (search ring depth 9), ⇓ ρ above′ (search ring depth 9), ⇓ ρ h (search ring depth 9)))
-          rise))
+        let s = scaled k in
+        absurd (⊎-elim
+        (λ (r : (e +ℤ pos 100 *ℤ divisor) ≤ℤ e′). omega (arith, ⇓ ρ r (search ring depth 9), ⇓ ρ some-divisor (search ring depth 9), ⇓ ρ s (search ring depth 9), ⇓ ρ above (search ring depth 9), ⇓ ρ h (search ring depth 9)))
+        (λ (r : (v +ℤ pos 200) ≤ℤ v′). omega (arith, ⇓ ρ (scaled r) (search ring depth 9), ⇓ ρ some-divisor (search ring depth 9), ⇓ ρ s (search ring depth 9), ⇓ ρ above′ (search ring depth 9), ⇓ ρ h (search ring depth 9)))
+        rise))
         (λ (k : v <ℤ t). k)
         (≤-total t v)
 
@@ -75,11 +75,11 @@ module _ (v v′ e e′ t divisor : ℤ) (some-divisor : pos 0 <ℤ divisor)
         ⊎-elim
         (λ (k : t ≤ℤ v′). k)
         (λ (k : v′ <ℤ t).
-          let s = scaled (<→≤ k) in
-          absurd (⊎-elim
-          (λ (r : (e +ℤ pos 100 *ℤ divisor) ≤ℤ e′). omega (arith, ⇓ ρ r (search ring depth 9), ⇓ ρ some-divisor (search ring depth 9), ⇓ ρ s (search ring depth 9), ⇓ ρ below′ (search ring depth 9), ⇓ ρ h (search ring depth 9)))
-          (λ (r : (v +ℤ pos 200) ≤ℤ v′). omega (arith, ⇓ ρ (scaled r) (search ring depth 9), ⇓ ρ some-divisor (search ring depth 9), ⇓ ρ s (search ring depth 9), ⇓ ρ below (search ring depth 9), ⇓ ρ h (search ring depth 9)))
-          rise))
+        let s = scaled (<→≤ k) in
+        absurd (⊎-elim
+        (λ (r : (e +ℤ pos 100 *ℤ divisor) ≤ℤ e′). omega (arith, ⇓ ρ r (search ring depth 9), ⇓ ρ some-divisor (search ring depth 9), ⇓ ρ s (search ring depth 9), ⇓ ρ below′ (search ring depth 9), ⇓ ρ h (search ring depth 9)))
+        (λ (r : (v +ℤ pos 200) ≤ℤ v′). omega (arith, ⇓ ρ (scaled r) (search ring depth 9), ⇓ ρ some-divisor (search ring depth 9), ⇓ ρ s (search ring depth 9), ⇓ ρ below (search ring depth 9), ⇓ ρ h (search ring depth 9)))
+        rise))
         (≤-total t v′)
 
 -- ---- the theorems
@@ -126,24 +126,23 @@ module _ {v exact : ℤ → ℤ} {divisor first last : ℤ} {mark : ℕ} (rising
       let lb′ : first ≤ℤ (b +ℤ pos 1) = omega ℤ-rules in
       let hb′ : (b +ℤ pos 1) ≤ℤ last = omega ℤ-rules in
       let low : indexAt v mark (a -ℤ pos 1) <ℤ j =
-          not-reached v mark (rising .some-mark) j (a -ℤ pos 1)
-          (value-under (v (a -ℤ pos 1)) (v a) (exact (a -ℤ pos 1)) (exact a) (j *ℤ pos mark) divisor (tracking .some-divisor)
-          (tracking .not-far-above (a -ℤ pos 1) la′ ha′) (tracking .not-far-below (a -ℤ pos 1) la′ ha′) (tracking .not-far-above a (<→≤ la) ha) (tracking .not-far-below a (<→≤ la) ha)
-          (rw next at (tracking .steps (a -ℤ pos 1) la′ (omega ℤ-rules))) under)
+      not-reached v mark (rising .some-mark) j (a -ℤ pos 1)
+      (value-under (v (a -ℤ pos 1)) (v a) (exact (a -ℤ pos 1)) (exact a) (j *ℤ pos mark) divisor (tracking .some-divisor)
+      (tracking .not-far-above (a -ℤ pos 1) la′ ha′) (tracking .not-far-below (a -ℤ pos 1) la′ ha′) (tracking .not-far-above a (<→≤ la) ha) (tracking .not-far-below a (<→≤ la) ha)
+      (rw next at (tracking .steps (a -ℤ pos 1) la′ (omega ℤ-rules))) under)
       in
       let high : j ≤ℤ indexAt v mark (b +ℤ pos 1) =
-          reaches v mark (rising .some-mark) j (b +ℤ pos 1)
-          (value-reached (v b) (v (b +ℤ pos 1)) (exact b) (exact (b +ℤ pos 1)) (j *ℤ pos mark) divisor (tracking .some-divisor)
-          (tracking .not-far-above b lb (<→≤ hb)) (tracking .not-far-below b lb (<→≤ hb)) (tracking .not-far-above (b +ℤ pos 1) lb′ hb′) (tracking .not-far-below (b +ℤ pos 1) lb′ hb′)
-          (tracking .steps b lb hb) over)
+      reaches v mark (rising .some-mark) j (b +ℤ pos 1)
+      (value-reached (v b) (v (b +ℤ pos 1)) (exact b) (exact (b +ℤ pos 1)) (j *ℤ pos mark) divisor (tracking .some-divisor)
+      (tracking .not-far-above b lb (<→≤ hb)) (tracking .not-far-below b lb (<→≤ hb)) (tracking .not-far-above (b +ℤ pos 1) lb′ hb′) (tracking .not-far-below (b +ℤ pos 1) lb′ hb′)
+      (tracking .steps b lb hb) over)
       in
       let s = secondOf v mark first last j in
       let c : Crossing v mark first last (marked j s) =
-          located rising ordered j
-          (≤-<-trans (index-mono rising (→≤ (omega arith)) la′ ha′) low)
-          (≤-trans high (index-mono rising lb′ hb′ (→≤ (omega arith))))
-      in
-      (
+      located rising ordered j
+      (≤-<-trans (index-mono rising (→≤ (omega arith)) la′ ha′) low)
+      (≤-trans high (index-mono rising lb′ hb′ (→≤ (omega arith))))
+      in (
         s,
         ⊎-elim (λ (k : a ≤ℤ s). k) (λ (k : s <ℤ a). absurd (clash low (side rising j s (a -ℤ pos 1) c la′ ha′ .0 (omega ℤ-rules)))) (≤-total a s),
         side rising j s (b +ℤ pos 1) c lb′ hb′ .1 high,

@@ -72,13 +72,13 @@ module _ {v : ℤ → ℤ} {first last : ℤ} {mark : ℕ} (rising : Rising v fi
       let r = parts-add (indexAt v mark a) (pos 1) in
       ⊎-elim
       (λ (k : indexAt v mark (a +ℤ pos 1) ≤ℤ indexAt v mark a).
-        let same : indexAt v mark (a +ℤ pos 1) ≡ indexAt v mark a = omega ℤ-rules in
-        rw (lists-none v mark (a +ℤ pos 1) (rw (back-one a) k)) (rw same at rest))
+      let same : indexAt v mark (a +ℤ pos 1) ≡ indexAt v mark a = omega ℤ-rules in
+      rw (lists-none v mark (a +ℤ pos 1) (rw (back-one a) k)) (rw same at rest))
       (λ (k : indexAt v mark a <ℤ indexAt v mark (a +ℤ pos 1)).
-        let same : indexAt v mark (a +ℤ pos 1) ≡ indexAt v mark a +ℤ pos 1 = omega ℤ-rules in
-        let one = lists-one v mark (a +ℤ pos 1) (rw (back-one a) k) in
-        let there : at (indexAt v mark (a +ℤ pos 1)) ≡ a +ℤ pos 1 = right (marked (indexAt v mark (a +ℤ pos 1)) (a +ℤ pos 1)) (Memᴰ·append-left {s = markAt v mark (a +ℤ pos 1)} (marksAfter v mark (a +ℤ pos 1) n) (rw one (List·Memᴰ·head refl))) in
-        rw one (ap₂ _∷_ (ap₂ marked same (sym there ∙ ap at same)) (rw same at rest)))
+      let same : indexAt v mark (a +ℤ pos 1) ≡ indexAt v mark a +ℤ pos 1 = omega ℤ-rules in
+      let one = lists-one v mark (a +ℤ pos 1) (rw (back-one a) k) in
+      let there : at (indexAt v mark (a +ℤ pos 1)) ≡ a +ℤ pos 1 = right (marked (indexAt v mark (a +ℤ pos 1)) (a +ℤ pos 1)) (Memᴰ·append-left {s = markAt v mark (a +ℤ pos 1)} (marksAfter v mark (a +ℤ pos 1) n) (rw one (List·Memᴰ·head refl))) in
+      rw one (ap₂ _∷_ (ap₂ marked same (sym there ∙ ap at same)) (rw same at rest)))
       (≤-total (indexAt v mark (a +ℤ pos 1)) (indexAt v mark a))
 
   -- ---- the theorems
@@ -112,11 +112,11 @@ module _ {v : ℤ → ℤ} {first last : ℤ} {mark : ℕ} (rising : Rising v fi
   side j s m c l h = (
     λ k. ≤-trans (crossing-index c .1) (index-mono rising (<→≤ (c .after-first)) k h),
     λ k. ⊎-elim (λ (o : s ≤ℤ m). o)
-      (λ (o : m <ℤ s).
+        (λ (o : m <ℤ s).
         let z = one-before s in
         let y = c .by-last in
         absurd (clash (crossing-index c .0) (≤-trans k (index-mono rising l (omega ℤ-rules) (omega ℤ-rules)))))
-      (≤-total s m),
+        (≤-total s m),
   )
 
   -- later marks are later
@@ -130,12 +130,12 @@ module _ {v : ℤ → ℤ} {first last : ℤ} {mark : ℕ} (rising : Rising v fi
       let y = c .by-last in
       ⊎-elim
       (λ (h : t ≤ℤ s).
-        let later = ≤-trans (crossing-index d .1) (index-mono rising (<→≤ (d .after-first)) h y) in
-        let near = index-rises-by-one rising (s -ℤ pos 1) (let p = one-before s in omega ℤ-rules) (let p = one-before s in omega ℤ-rules) in
-        let here : (s -ℤ pos 1) +ℤ pos 1 ≡ s = →≡ (omega (arith, parts-add (s -ℤ pos 1) (pos 1), one-before s)) in
-        let near′ : indexAt v mark s ≤ℤ (indexAt v mark (s -ℤ pos 1) +ℤ pos 1) = rw here at near in
-        let before = crossing-index c .0 in
-        absurd (omega (ℤ-rules, parts-add (indexAt v mark (s -ℤ pos 1)) (pos 1))))
+      let later = ≤-trans (crossing-index d .1) (index-mono rising (<→≤ (d .after-first)) h y) in
+      let near = index-rises-by-one rising (s -ℤ pos 1) (let p = one-before s in omega ℤ-rules) (let p = one-before s in omega ℤ-rules) in
+      let here : (s -ℤ pos 1) +ℤ pos 1 ≡ s = →≡ (omega (arith, parts-add (s -ℤ pos 1) (pos 1), one-before s)) in
+      let near′ : indexAt v mark s ≤ℤ (indexAt v mark (s -ℤ pos 1) +ℤ pos 1) = rw here at near in
+      let before = crossing-index c .0 in
+      absurd (omega (ℤ-rules, parts-add (indexAt v mark (s -ℤ pos 1)) (pos 1))))
       (λ (h : s <ℤ t). h)
       (≤-total t s)
 

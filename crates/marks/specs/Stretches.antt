@@ -95,13 +95,13 @@ module _ {v : ℤ → ℤ} {first last : ℤ} {mark : ℕ} (rising : Rising v fi
   one-length s l h =
       ⊎-elim
       (λ (k : indexAt v mark (s +ℤ pos 1) ≤ℤ indexAt v mark s).
-        let up = index-rises rising s l h in
-        let p = parts-add (indexAt v mark s) (pos 0) in
-        rw (lists-none v mark (s +ℤ pos 1) (rw (back-one s) k)) (omega ℤ-rules))
+      let up = index-rises rising s l h in
+      let p = parts-add (indexAt v mark s) (pos 0) in
+      rw (lists-none v mark (s +ℤ pos 1) (rw (back-one s) k)) (omega ℤ-rules))
       (λ (k : indexAt v mark s <ℤ indexAt v mark (s +ℤ pos 1)).
-        let up = index-rises-by-one rising s l h in
-        let p = parts-add (indexAt v mark s) (pos 1) in
-        rw (lists-one v mark (s +ℤ pos 1) (rw (back-one s) k)) (omega ℤ-rules))
+      let up = index-rises-by-one rising s l h in
+      let p = parts-add (indexAt v mark s) (pos 1) in
+      rw (lists-one v mark (s +ℤ pos 1) (rw (back-one s) k)) (omega ℤ-rules))
       (≤-total (indexAt v mark (s +ℤ pos 1)) (indexAt v mark s))
 
   length-after : (n : ℕ) (a b : ℤ) → first ≤ℤ a → b ≤ℤ last → b ≡ a +ℤ pos n → indexAt v mark b ≡ indexAt v mark a +ℤ pos (length (marksAfter v mark a n))

@@ -58,7 +58,12 @@ pub fn locate(body: Body, start: Second, coefs: &[i64], index: i64) -> Second
     let mut left = whole::inner::distance(first, last);
     let mut halve = false;
     while left > 1 {
-        let step = guess::place(halve, whole::inner::distance(below, target), whole::inner::distance(below, above), left);
+        let step = guess::place(
+            halve,
+            whole::inner::distance(below, target),
+            whole::inner::distance(below, above),
+            left,
+        );
         let middle = whole::inner::add(lo, whole::inner::signed(step));
         let value = series::inner::value(body, start, coefs, Second(middle));
         if value < target {

@@ -19,7 +19,16 @@ pub mod inner;
 
 // Fills `out` with the marks of the stretch from lo to hi, given the indices at its ends: none where they are one, the mark of two neighbouring seconds, else those of
 // its two halves in turn.
-fn find(body: Body, start: Second, coefs: &[i64], lo: i64, hi: i64, lowest: i64, highest: i64, out: &mut [i64])
+fn find(
+    body: Body,
+    start: Second,
+    coefs: &[i64],
+    lo: i64,
+    hi: i64,
+    lowest: i64,
+    highest: i64,
+    out: &mut [i64],
+)
     requires { ⌜ Accepted body (start .0) (now coefs) ⌝ }
     requires { ⌜ Stretch (valueAt body (start .0) (now coefs)) (numbers body .mark) (start .0) (lastSecond body (start .0) (now coefs)) lo hi lowest highest (length (now out)) ⌝ }
     ensures { λ _. ⌜ now (out .exit) ≡ words (marks (valueAt body (start .0) (now (coefs .entry))) (numbers body .mark) lo hi) ⌝ }
@@ -37,8 +46,26 @@ fn find(body: Body, start: Second, coefs: &[i64], lo: i64, hi: i64, lowest: i64,
     let between = inner::index_at(body, start, coefs, Second(middle));
     let count = whole::inner::distance(lowest, between);
     let k = 2 * count;
-    find(body, start, coefs, lo, middle, lowest, between, &mut out[..k]);
-    find(body, start, coefs, middle, hi, between, highest, &mut out[k..]);
+    find(
+        body,
+        start,
+        coefs,
+        lo,
+        middle,
+        lowest,
+        between,
+        &mut out[..k],
+    );
+    find(
+        body,
+        start,
+        coefs,
+        middle,
+        hi,
+        between,
+        highest,
+        &mut out[k..],
+    );
 }
 
 // How many marks a series lists, or why it is refused.
@@ -84,6 +111,15 @@ pub fn list_marks(body: Body, start: Second, coefs: &[i64], out: &mut [i64]) -> 
             segment: 0,
         });
     }
-    find(body, start, coefs, first, last, lowest, highest, &mut out[..2 * count]);
+    find(
+        body,
+        start,
+        coefs,
+        first,
+        last,
+        lowest,
+        highest,
+        &mut out[..2 * count],
+    );
     ListAnswer::Marks(count)
 }

@@ -4,7 +4,7 @@ use borrow.Author.Count.{below-more}
 use mathlib.Core.Bool.{Bool, true, false, not}
 use mathlib.Core.Path.{_≡_, refl, sym, ap, subst, _∙_}
 use mathlib.Core.List.{List}
-use Prim.Native.Nat.{ℕ, _+_, _-_, _≤_, _<_}
+use Prim.Native.Nat.{ℕ, _-_, _≤_, _<_}
 use native.Mathlib.Omega.{arith}
 use lib.Dec.{T}
 use lib.IntN.{ℤ, pos}
@@ -84,14 +84,14 @@ loop-again c =
     record {
       high = omega arith;
       kept = length-set (l .loop .out) i z ∙ v .kept;
-      values = below-more (λ (k : ℕ). getD (set (l .loop .out) i z) k (pos 0) ≡ valueOrZero (s .args .coefs .now) (getD (s .args .places .now) k (pos 0))) i (λ k m. getD-set-other (l .loop .out) i k z (pos 0) (λ e. omega arith) ∙ v .values k m) (getD-set-same (l .loop .out) i z (pos 0) inside ∙ here)
+      values = below-more (λ (k : ℕ). getD (set (l .loop .out) i z) k (pos 0) ≡ valueOrZero (s .args .coefs .now) (getD (s .args .places .now) k (pos 0))) i (λ k m. getD-set-other (l .loop .out) i k z (pos 0) (λ e. omega arith) ∙ v .values k m) (getD-set-same (l .loop .out) i z (pos 0) inside ∙ here);
     }
 
 same-length : tie.Need-same-length Inv-loop μ-loop
 same-length c = search needs
 
 returns-4 : tie.Need-returns-4 Inv-loop μ-loop
-returns-4 c = 
+returns-4 c =
     let l = c .before in
     let v = l .loop .inv in
     record { same-length = v .kept; values = λ e k m. v .values k (omega arith); refused = λ (e : true ≡ false). absurd (subst T e tt) }

@@ -100,16 +100,16 @@ loop-again c = rw (toZ-ofZ (add-sum c), toZ-ofZ (mul-sum-3 c), back c, after-bac
 shared-slice-copy-out-result : tie.Need-shared-slice-copy-out-result Inv-loop μ-loop
 shared-slice-copy-out-result c = search needs
 
-floor-by-scale-requires : tie.Need-floor-by-scale-requires Inv-loop μ-loop
-floor-by-scale-requires c κs =
+floor-of-sum-requires : tie.Need-floor-of-sum-requires Inv-loop μ-loop
+floor-of-sum-requires c κs =
     let l = c .before .before in
     let s = l .before .before in
     let h = total-small (s .pre .1 .0) (place s) (l .loop .inv) in
     within (search bounds) tt
 
 -- what the last division gives
-quotient : (c : tie.After-floor-by-scale Inv-loop μ-loop) → toZ w64 (ofZ w64 (c .floor-by-scale .result)) ≡ floorDiv (toZ w64 (c .before .before .before .loop .sum)) S
-quotient c = toZ-ofZ (record { sfits = c .floor-by-scale .ok }) ∙ c .floor-by-scale .ensures
+quotient : (c : tie.After-floor-of-sum Inv-loop μ-loop) → toZ w64 (ofZ w64 (c .floor-of-sum .result)) ≡ floorDiv (toZ w64 (c .before .before .before .loop .sum)) S
+quotient c = toZ-ofZ (record { sfits = c .floor-of-sum .ok }) ∙ c .floor-of-sum .ensures
 
 add-result : tie.Need-add-result Inv-loop μ-loop
 add-result c =
@@ -143,6 +143,6 @@ value-spec =
     loop-less
     loop-again
     shared-slice-copy-out-result
-    floor-by-scale-requires
+    floor-of-sum-requires
     add-result
     returns)

@@ -133,11 +133,11 @@ at-next c =
     let value = back (c .before .value3 .result) (c .before .value3 .ok) in
     ⊎-elim
     (λ w.
-      rw (w .1, w .2, w .3, w .4, middle, value)
-      (upper b i at (lt-yes (rw (value, target) at (w .0 .taken))), upper-falls b i at))
+    rw (w .1, w .2, w .3, w .4, middle, value)
+    (upper b i at (lt-yes (rw (value, target) at (w .0 .taken))), upper-falls b i at))
     (λ w.
-      rw (w .1, w .2, w .3, w .4, middle, value)
-      (lower b i at (lt-no (rw (value, target) at (w .0 .left))), lower-falls b i at))
+    rw (w .1, w .2, w .3, w .4, middle, value)
+    (lower b i at (lt-no (rw (value, target) at (w .0 .left))), lower-falls b i at))
     (c .if1 .came)
 
 -- ---- the needs

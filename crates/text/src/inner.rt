@@ -1,9 +1,10 @@
-// The bytes of a line.
+// Putting a line into lent room. Callers show that there is room for it.
+use crate::Moment;
 ghost use mathlib.Core.Path.{_≡_};
 ghost use Prim.Native.Nat.{_+_, _<_, _≤_};
 ghost use mathlib.Core.List.{_++_};
 ghost use lib.ListN.{length, take, drop};
-ghost use Rattle.listing.specs.Text as text;
+ghost use Rattle.text.specs.Text as text;
 
 // The digit of n at a unit.
 fn digit(n: u64, unit: u64) -> u8
@@ -11,16 +12,6 @@ fn digit(n: u64, unit: u64) -> u8
     ensures { λ r. ⌜ r ≡ text.digit n unit ⌝ }
 {
     48 + (n / unit % 10) as u8
-}
-
-pub struct Moment {
-    pub year: u64,
-    pub month: u64,
-    pub day: u64,
-    pub hour: u64,
-    pub minute: u64,
-    pub second: u64,
-    pub millisecond: u64,
 }
 
 // What stands behind the index: date and time.

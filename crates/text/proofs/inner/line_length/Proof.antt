@@ -1,7 +1,7 @@
--- `listing::text::line_length` meets its contract. Assumes nothing.
+-- `text::inner::line_length` meets its contract. Assumes nothing.
 use borrow.Author.Tests.{lt-ltb, le-ltb}
-use Rattle.listing.proofs.text.line_length.Statement.{statement}
-use Rattle.listing.proofs.text.line_length.Tie as tie
+use Rattle.text.proofs.inner.line_length.Statement.{statement}
+use Rattle.text.proofs.inner.line_length.Tie as tie
 
 returns : tie.Need-returns
 returns c = rw (lt-ltb (c .before .args .index) 10 (c .if1 .taken))

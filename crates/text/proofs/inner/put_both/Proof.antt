@@ -1,4 +1,4 @@
--- `listing::text::put_both` meets its contract. Assumes nothing.
+-- `text::inner::put_both` meets its contract. Assumes nothing.
 use Prim.Native.Nat.{ℕ, _+_, _≤_}
 use borrow.Author.Needs.{needs}
 use lib.ListN.{length, take, drop, length-append}
@@ -6,8 +6,8 @@ use lib.Seq.{take-at, drop-at, drop-drop, length-take-le}
 use mathlib.Core.List.{List, _++_, append-assoc}
 use mathlib.Core.Path.{_≡_, refl, sym, ap, ap₂, _∙_}
 use native.Mathlib.Omega.{arith}
-use Rattle.listing.proofs.text.put_both.Statement.{statement}
-use Rattle.listing.proofs.text.put_both.Tie as tie
+use Rattle.text.proofs.inner.put_both.Statement.{statement}
+use Rattle.text.proofs.inner.put_both.Tie as tie
 
 -- what the room holds after both
 module _ (room head tail : List ℕ) (at : ℕ) (h : at + (length head + length tail) ≤ length room) where

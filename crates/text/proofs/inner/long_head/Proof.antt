@@ -1,8 +1,8 @@
--- `listing::text::long_head` meets its contract. Assumes nothing.
+-- `text::inner::long_head` meets its contract. Assumes nothing.
 use borrow.Author.Needs.{needs}
 use borrow.Author.Tests.{le-ltb}
-use Rattle.listing.proofs.text.long_head.Statement.{statement}
-use Rattle.listing.proofs.text.long_head.Tie as tie
+use Rattle.text.proofs.inner.long_head.Statement.{statement}
+use Rattle.text.proofs.inner.long_head.Tie as tie
 
 digit-requires : tie.Need-digit-requires
 digit-requires c κs = search needs

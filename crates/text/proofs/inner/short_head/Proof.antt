@@ -1,8 +1,8 @@
--- `listing::text::short_head` meets its contract. Assumes nothing.
+-- `text::inner::short_head` meets its contract. Assumes nothing.
 use borrow.Author.Needs.{needs}
 use borrow.Author.Tests.{lt-ltb}
-use Rattle.listing.proofs.text.short_head.Statement.{statement}
-use Rattle.listing.proofs.text.short_head.Tie as tie
+use Rattle.text.proofs.inner.short_head.Statement.{statement}
+use Rattle.text.proofs.inner.short_head.Tie as tie
 
 digit-requires : tie.Need-digit-requires
 digit-requires c κs = search needs

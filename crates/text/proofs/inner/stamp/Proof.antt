@@ -1,7 +1,7 @@
--- `listing::text::stamp` meets its contract. Assumes nothing.
+-- `text::inner::stamp` meets its contract. Assumes nothing.
 use borrow.Author.Needs.{needs}
-use Rattle.listing.proofs.text.stamp.Statement.{statement}
-use Rattle.listing.proofs.text.stamp.Tie as tie
+use Rattle.text.proofs.inner.stamp.Statement.{statement}
+use Rattle.text.proofs.inner.stamp.Tie as tie
 
 digit-requires : tie.Need-digit-requires
 digit-requires c κs = search needs

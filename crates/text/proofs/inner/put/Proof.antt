@@ -1,4 +1,4 @@
--- `listing::text::put` meets its contract. Assumes nothing.
+-- `text::inner::put` meets its contract. Assumes nothing.
 use Prim.Native.Nat.{ℕ, _+_, _-_, _≤_}
 use borrow.Author.Needs.{needs}
 use lib.ListN.{length, take, drop, length-drop, drop-of-length-le}
@@ -6,8 +6,8 @@ use lib.Seq.{take-all, take-length, drop-drop}
 use mathlib.Core.List.{List, _++_, append-assoc, append-nil}
 use mathlib.Core.Path.{_≡_, refl, sym, ap, _∙_}
 use native.Mathlib.Omega.{arith}
-use Rattle.listing.proofs.text.put.Statement.{statement}
-use Rattle.listing.proofs.text.put.Tie as tie
+use Rattle.text.proofs.inner.put.Statement.{statement}
+use Rattle.text.proofs.inner.put.Tie as tie
 
 -- what the room holds when the part comes back
 back : (room part : List ℕ) (at : ℕ) → at + length part ≤ length room → take at room ++ (take (length part) part ++ drop (length part) (take (length room - at) (drop at room)) ++ drop (length room - at) (drop at room)) ≡ take at room ++ part ++ drop (at + length part) room

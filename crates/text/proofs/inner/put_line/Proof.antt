@@ -1,4 +1,4 @@
--- `listing::text::put_line` meets its contract. Assumes nothing.
+-- `text::inner::put_line` meets its contract. Assumes nothing.
 use Prim.Native.Nat.{ℕ, _+_, _<_, _≤_}
 use borrow.Author.Needs.{needs}
 use borrow.Author.Tests.{lt-ltb, le-ltb}
@@ -6,9 +6,9 @@ use lib.ListN.{length, take, drop}
 use mathlib.Core.List.{List, _++_}
 use mathlib.Core.Path.{_≡_, refl, sym, ap, _∙_}
 use native.Mathlib.Omega.{arith}
-use Rattle.listing.specs.Text.{head, stamp, line, lineLength, date, time}
-use Rattle.listing.proofs.text.put_line.Statement.{statement}
-use Rattle.listing.proofs.text.put_line.Tie as tie
+use Rattle.text.specs.Text.{head, stamp, line, lineLength, date, time}
+use Rattle.text.proofs.inner.put_line.Statement.{statement}
+use Rattle.text.proofs.inner.put_line.Tie as tie
 
 -- the sizes of the parts of a line
 short : (letter index : ℕ) {hd : List ℕ} {t : ℕ} → index < 10 → hd ≡ head letter index → t ≡ 25 → length hd + t ≡ lineLength index
