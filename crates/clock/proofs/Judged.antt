@@ -1,20 +1,14 @@
 -- When the entry points refuse, from the tests that their code makes. Assumes nothing.
-use Prim.Native.Nat.{ℕ, zero, suc, _+_, _*_, _/_, _-_, _<_, _≤_}
-use mathlib.Core.Path.{_≡_, refl, sym, ap, _∙_, subst}
-use mathlib.Core.Bool.{Bool, true, false}
-use mathlib.Core.List.{List, [], _∷_}
-use native.Mathlib.Omega.{arith}
-use lib.IntN.{ℤ, pos, negsuc, _+ℤ_, _-ℤ_, _*ℤ_}
-use lib.Signed.{leZ, ltZ, _≤ℤ_, _<ℤ_}
-use lib.ListN.{length}
-use Rattle.whole.specs.Parts.{_⩽_, _≺_}
-use Rattle.whole.specs.Solver.{⇑, ⇓, ring, le-yes, le-no, yes-le, no-le}
-use Rattle.refusals.specs.Verdict.{Verdict, answered, refused, accepted, _before_, _then_}
+use mathlib.Core.Path.{_≡_, sym, ap}
+use mathlib.Core.Bool.{true, false}
+use mathlib.Core.List.{List}
+use lib.IntN.{ℤ}
+use Rattle.refusals.specs.Verdict.{Verdict, answered, refused, accepted, _before_}
 use Rattle.dates.specs.declared.Day.{Day}
 use Rattle.clock.specs.declared.Second.{Second}
 use Rattle.clock.specs.declared.Milli.{Milli}
 use Rattle.clock.specs.declared.ShownTime.{ShownTime}
-use Rattle.clock.specs.Leap.{lawful, holds, entryUsed}
+use Rattle.clock.specs.Leap.{lawful, holds}
 use Rattle.clock.specs.Clock.{convertible, tai, milliIn, dayOfMilli, shownOfMilli, dayIn, shownIn}
 use Rattle.clock.specs.Answers.{leapJudged, judged}
 use Rattle.clock.proofs.Used.{none-used}

@@ -1,21 +1,20 @@
 -- How large seconds and milliseconds are, and that every converted day has a date. Assumes nothing.
-use Prim.Native.Nat.{ℕ, zero, suc, _+_, _*_, _/_, _-_, _<_, _≤_}
-use mathlib.Core.Path.{_≡_, refl, sym, ap, _∙_, subst}
-use mathlib.Core.Bool.{Bool, true, false}
+use Prim.Native.Nat.{ℕ}
+use mathlib.Core.Path.{_≡_, refl, sym, ap}
+use mathlib.Core.Bool.{true}
 use mathlib.Core.List.{List, [], _∷_}
 use native.Mathlib.Omega.{arith}
-use lib.IntN.{ℤ, pos, negsuc, _+ℤ_, _-ℤ_, _*ℤ_}
-use lib.Signed.{leZ, ltZ, _≤ℤ_, _<ℤ_}
-use lib.ListN.{length}
-use Rattle.whole.specs.Parts.{_⩽_, _≺_}
-use Rattle.whole.specs.Solver.{⇑, ⇓, ring, le-yes, le-no, yes-le, no-le}
+use lib.IntN.{ℤ, pos, negsuc}
+use lib.Signed.{leZ}
+use Rattle.whole.specs.Parts.{_⩽_}
+use Rattle.whole.specs.Solver.{⇑, ⇓, ring, le-yes, yes-le}
 use Rattle.refusals.specs.Verdict.{Verdict, answered, refused, _then_}
 use Rattle.whole.specs.Ranges.{Within, within, bounds}
 use Rattle.whole.specs.Floor.{floorDiv, floorDiv-ge, floorDiv-le}
 use Rattle.dates.specs.Answers.{hasDate}
 use Rattle.clock.specs.declared.Milli.{Milli}
 use Rattle.clock.specs.declared.Second.{Second}
-use Rattle.clock.specs.Leap.{between, lawful, entries, offset, holds, entryUsed}
+use Rattle.clock.specs.Leap.{lawful, entries, offset, holds, entryUsed}
 use Rattle.clock.specs.Clock.{convertible, tai, localMilli, milliIn, dayOfMilli}
 use Rattle.clock.proofs.Search.{both, Last}
 use Rattle.clock.proofs.Table.{offset-small}

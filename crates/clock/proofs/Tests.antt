@@ -1,22 +1,20 @@
 -- What the tests of the code tell of the definitions. Assumes nothing.
-use Prim.Native.Nat.{ℕ, zero, suc, _+_, _*_, _/_, _%_, _<_, _≤_}
-use mathlib.Core.Path.{_≡_, refl, sym, ap, _∙_, subst}
-use mathlib.Core.Bool.{Bool, true, false, cond, _&&_}
+use Prim.Native.Nat.{ℕ, _%_, _<_, _≤_}
+use mathlib.Core.Path.{_≡_, refl, sym}
+use mathlib.Core.Bool.{Bool, true, false, _&&_}
 use mathlib.Core.List.{List, [], _∷_}
 use native.Mathlib.Omega.{arith}
-use lib.IntN.{ℤ, pos, negsuc, _+ℤ_, _-ℤ_, _*ℤ_}
-use lib.Signed.{leZ, ltZ, _≤ℤ_, _<ℤ_}
+use lib.IntN.{ℤ, pos, _+ℤ_, _-ℤ_}
+use lib.Signed.{leZ, ltZ}
 use lib.ListN.{length}
 use lib.Dec.{eqb, leb}
 use borrow.Author.Tests.{eq-eqb, ne-eqb, le-leb, lt-leb}
 use mir.Syntax.{w64}
 use mir.Val.{SFits}
 use Rattle.whole.specs.Parts.{_⩽_, _≺_}
-use Rattle.whole.specs.Solver.{⇑, ⇓, ring, lt-yes, lt-no, le-yes, le-no, yes-le, no-le, yes-lt, no-lt}
+use Rattle.whole.specs.Solver.{⇑, ⇓, ring, lt-yes, lt-no, le-yes, le-no, yes-lt, no-lt}
 use Rattle.dates.proofs.Tests.{at-most, above}
-use Rattle.clock.specs.declared.Second.{Second}
 use Rattle.clock.specs.Leap.{between, utcDay, firstEntry, nextEntry, goodEntry, every, lawful, entries}
-use Rattle.clock.specs.Clock.{convertible}
 use Rattle.clock.proofs.Search.{either, every-true, every-false}
 
 -- ---- a conjunction, told from the left
@@ -50,9 +48,6 @@ module _ (d o : ℤ) where
   first-by-offset x e f = right (utcDay d) (between (pos 0) (pos 1000) o) x (sym e) f
 
 module _ (d o d′ o′ : ℤ) where
-  rest : Bool
-  rest = between (o +ℤ pos 1) (o +ℤ pos 1) o′
-
   pub next-no-day : false ≡ utcDay d′ → false ≡ nextEntry d o d′ o′
   unfolding nextEntry
   next-no-day e = left (utcDay d′) (ltZ d d′ && between (o +ℤ pos 1) (o +ℤ pos 1) o′) (sym e)

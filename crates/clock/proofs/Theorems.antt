@@ -1,16 +1,15 @@
 -- The laws of the clock: days never go back as seconds go on, every converted day has a date, and once the first entry holds it goes on holding.
 -- Over every lawful table; the first also over every zone. Assumes nothing.
-use Prim.Native.Nat.{ℕ, zero, suc, _+_, _*_, _/_, _-_, _<_, _≤_}
-use mathlib.Core.Path.{_≡_, refl, sym, ap, _∙_, subst}
+use Prim.Native.Nat.{ℕ, suc, _+_, _-_, _<_, _≤_}
+use mathlib.Core.Path.{_≡_, refl, sym, ap, _∙_}
 use mathlib.Core.Bool.{Bool, true, false}
 use mathlib.Core.List.{List, [], _∷_}
 use native.Mathlib.Omega.{arith}
 use native.Mathlib.Decide.{decLt}
-use lib.IntN.{ℤ, pos, negsuc, _+ℤ_, _-ℤ_, _*ℤ_}
-use lib.Signed.{leZ, ltZ, _≤ℤ_, _<ℤ_}
+use lib.IntN.{ℤ, pos, _+ℤ_, _*ℤ_}
 use Rattle.whole.specs.Parts.{_⩽_, _≺_}
 use Rattle.whole.specs.Laws.{≤-trans}
-use Rattle.whole.specs.Ranges.{Within}
+use Rattle.whole.specs.Ranges.{Within, within, bounds}
 use Rattle.whole.specs.Solver.{⇑, ⇓, ring, le-yes, le-no, yes-le}
 use Rattle.whole.specs.Floor.{floorDiv, floorDiv-ge, floorDiv-le, floorDiv-low, floorDiv-high, floorDiv-mono}
 use Rattle.refusals.specs.Verdict.{Verdict, answered, refused, _then_}
@@ -20,9 +19,11 @@ use Rattle.clock.specs.declared.Second.{Second}
 use Rattle.clock.specs.declared.Milli.{Milli}
 use Rattle.clock.specs.Leap.{lawful, entries, day, offset, holdsFrom, holds}
 use Rattle.clock.specs.Clock.{convertible, tai, localMilli, milliIn, dayOfMilli, dayIn}
+use Rattle.clock.specs.Answers.{utc8, dayOfSecond}
+use Rattle.clock.proofs.Judged.{refused-1, refused-6, passed}
 use Rattle.clock.proofs.Search.{Last}
 use Rattle.clock.proofs.Table.{offset-is, days-in-order}
-use Rattle.clock.proofs.Sizes.{Converted, converted, milli-has-date}
+use Rattle.clock.proofs.Sizes.{converted, milli-has-date}
 
 -- ---- seconds and TAI milliseconds go on together
 tai-goes-on : (s s′ : Second) → s .0 ⩽ s′ .0 → tai s ⩽ tai s′
@@ -87,3 +88,60 @@ module _ (w : List ℤ) (l : lawful w ≡ true) (zone t t′ : ℤ) (i i′ : �
       go : Dec (i < i′) → floorDiv (localMilli t (offset w i) zone) 86400000 ⩽ floorDiv (localMilli t′ (offset w i′) zone) 86400000
       go (yes m) = later-entry m
       go (no m) = same-entry (omega (arith, entry-goes-on))
+
+-- ---- the theorems, over what is answered
+-- a day that is answered is that of a millisecond that is answered
+record OfMilli (w : List ℤ) (s : Second) (zone : ℤ) (d : Day) : Type 0 where
+  milli : Milli
+  converts : milliIn w s zone ≡ answered milli
+  is : dayOfMilli milli ≡ d
+
+of-milli : (w : List ℤ) (s : Second) (zone : ℤ) (d : Day) → dayIn w s zone ≡ answered d → OfMilli w s zone d
+unfolding dayIn
+of-milli w s zone d e = go (milliIn w s zone) refl e
+  where
+    go : (v : Verdict Milli) → milliIn w s zone ≡ v → (v then (λ m. answered (dayOfMilli m))) ≡ answered d → OfMilli w s zone d
+    go (answered m) p q = record { milli = m; converts = p; is = cc }
+    go (refused number segment) p q = let one : _≡_ {A = ℕ} 0 1 = cc in absurd (omega arith)
+
+-- days never go back as seconds go on
+pub days-never-go-back : (w : List ℤ) → lawful w ≡ true → (s s′ : Second) → s .0 ⩽ s′ .0 → (zone : ℤ) (d d′ : Day) → dayIn w s zone ≡ answered d → dayIn w s′ zone ≡ answered d′ → d .0 ⩽ d′ .0
+unfolding dayOfMilli
+days-never-go-back w l s s′ h zone d d′ e e′ =
+    let m = of-milli w s zone d e in
+    let m′ = of-milli w s′ zone d′ e′ in
+    let c = converted w s zone (m .milli) (m .converts) in
+    let c′ = converted w s′ zone (m′ .milli) (m′ .converts) in
+    let n : floorDiv (localMilli (tai s) (offset w (c .entry)) zone) 86400000 ≡ d .0 = ap (λ (x : ℤ). floorDiv x 86400000) (sym (c .is)) ∙ ap (λ (x : Day). x .0) (m .is) in
+    let n′ : floorDiv (localMilli (tai s′) (offset w (c′ .entry)) zone) 86400000 ≡ d′ .0 = ap (λ (x : ℤ). floorDiv x 86400000) (sym (c′ .is)) ∙ ap (λ (x : Day). x .0) (m′ .is) in
+    rw (n, n′) at (day-goes-on w l zone (tai s) (tai s′) (c .entry) (c′ .entry) (tai-goes-on s s′ h) (c .used) (c′ .used))
+
+-- every converted day has a date; the zones -720 to 840 are within 1,000 minutes
+pub converted-day-has-date : (w : List ℤ) → lawful w ≡ true → (s : Second) → convertible s ≡ true → (zone : ℤ) → Within 1000 zone → (d : Day) → dayIn w s zone ≡ answered d → hasDate (d .0) ≡ true
+converted-day-has-date w l s k zone z d e =
+    let m = of-milli w s zone d e in
+    ap (λ (x : Day). hasDate (x .0)) (sym (m .is)) ∙ milli-has-date w s zone (m .milli) l k z (m .converts)
+
+-- ---- the same of the entry point
+record Passed (w : List ℤ) (s : Second) (d : Day) : Type 0 where
+  table : lawful w ≡ true
+  second : convertible s ≡ true
+  answers : dayIn w s utc8 ≡ answered d
+
+passed-says : (w : List ℤ) (s : Second) (d : Day) → dayOfSecond w s ≡ answered d → Passed w s d
+unfolding dayOfSecond
+passed-says w s d e = go (lawful w) (convertible s) refl refl
+  where
+    go : (a b : Bool) → lawful w ≡ a → convertible s ≡ b → Passed w s d
+    go false b l k = let one : _≡_ {A = ℕ} 0 1 = cc (refused-1 w s (dayIn w s utc8) l) in absurd (omega arith)
+    go true false l k = let one : _≡_ {A = ℕ} 0 1 = cc (refused-6 w s (dayIn w s utc8) l k) in absurd (omega arith)
+    go true true l k = record { table = l; second = k; answers = sym (passed w s (dayIn w s utc8) l k) ∙ e }
+
+pub answered-days-never-go-back : (w : List ℤ) (s s′ : Second) → s .0 ⩽ s′ .0 → (d d′ : Day) → dayOfSecond w s ≡ answered d → dayOfSecond w s′ ≡ answered d′ → d .0 ⩽ d′ .0
+answered-days-never-go-back w s s′ h d d′ e e′ =
+    let p = passed-says w s d e in
+    let p′ = passed-says w s′ d′ e′ in
+    days-never-go-back w (p .table) s s′ h utc8 d d′ (p .answers) (p′ .answers)
+
+pub answered-day-has-date : (w : List ℤ) (s : Second) (d : Day) → dayOfSecond w s ≡ answered d → hasDate (d .0) ≡ true
+answered-day-has-date w s d e = let p = passed-says w s d e in converted-day-has-date w (p .table) s (p .second) utc8 (within (search bounds) tt) d (p .answers)

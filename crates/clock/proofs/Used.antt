@@ -1,17 +1,15 @@
 -- The entry used: an entry that does not hold has none after it that does, so that the last is found by bisection. Assumes nothing.
-use Prim.Native.Nat.{ℕ, zero, suc, _+_, _*_, _/_, _-_, _<_, _≤_}
-use mathlib.Core.Path.{_≡_, refl, sym, ap, _∙_, subst}
-use mathlib.Core.Bool.{Bool, true, false}
-use mathlib.Core.List.{List, [], _∷_}
+use Prim.Native.Nat.{ℕ, _+_, _<_, _≤_}
+use mathlib.Core.Path.{_≡_}
+use mathlib.Core.Bool.{true, false}
+use mathlib.Core.List.{List}
 use native.Mathlib.Omega.{arith}
-use lib.IntN.{ℤ, pos, negsuc, _+ℤ_, _-ℤ_, _*ℤ_}
-use lib.Signed.{leZ, ltZ, _≤ℤ_, _<ℤ_}
-use lib.ListN.{length}
-use Rattle.whole.specs.Parts.{_⩽_, _≺_}
-use Rattle.whole.specs.Solver.{⇑, ⇓, ring, le-yes, le-no, yes-le, no-le}
-use Rattle.refusals.specs.Verdict.{Verdict, answered, refused}
+use lib.IntN.{ℤ}
+use Rattle.whole.specs.Parts.{_≺_}
+use Rattle.whole.specs.Solver.{le-no, no-le}
+use Rattle.refusals.specs.Verdict.{answered, refused}
 use Rattle.whole.specs.Laws.{<-≤-trans}
-use Rattle.clock.specs.Leap.{lawful, entries, holdsFrom, holds, last, entryUsed}
+use Rattle.clock.specs.Leap.{lawful, entries, holdsFrom, holds, entryUsed}
 use Rattle.clock.proofs.Search.{Last, last-is, last-none, last-says}
 use Rattle.clock.proofs.Table.{some, moments-in-order}
 

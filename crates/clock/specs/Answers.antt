@@ -1,6 +1,6 @@
 -- What the entry points of this crate answer: 1 for a leap table that breaks its rule, then 6 for a second outside the conversion range, then 7
 -- for an instant before the first entry (document 01, "Refusal numbers"). Assumes nothing: these are definitions.
-use mathlib.Core.Bool.{Bool, not}
+use mathlib.Core.Bool.{not}
 use mathlib.Core.List.{List}
 use lib.IntN.{ℤ, pos}
 use Rattle.refusals.specs.Verdict.{Verdict, answered, refusal, refuseWhen, _before_}

@@ -1,6 +1,6 @@
 -- From a TDB second to local milliseconds, days and shown times (document 01, "Three counts of time"). The zone is in minutes; UTC+8 is 480.
 -- Assumes nothing: these are definitions.
-use Prim.Native.Nat.{ℕ, _/_, _%_}
+use Prim.Native.Nat.{_/_, _%_}
 use mathlib.Core.Bool.{Bool}
 use mathlib.Core.List.{List}
 use lib.IntN.{ℤ, pos, negsuc, _+ℤ_, _-ℤ_, _*ℤ_}

@@ -1,9 +1,9 @@
 -- The leap table (document 01, "Three counts of time"): its rule, when an entry holds, and the entry used. A table is lent as words, a UTC day and
 -- TAI-UTC in seconds in turn. Assumes nothing: these are definitions.
 use Prim.Native.Nat.{ℕ, zero, suc, _+_, _*_, _/_, _%_}
-use mathlib.Core.Bool.{Bool, true, false, cond, _&&_}
+use mathlib.Core.Bool.{Bool, true, cond, _&&_}
 use mathlib.Core.List.{List}
-use lib.IntN.{ℤ, pos, negsuc, _+ℤ_, _-ℤ_, _*ℤ_}
+use lib.IntN.{ℤ, pos, negsuc, _+ℤ_, _*ℤ_}
 use lib.Signed.{leZ, ltZ}
 use lib.ListN.{length, getD}
 use lib.Dec.{eqb, leb}
@@ -23,6 +23,9 @@ offset leap i = getD leap (2 * i + 1) (pos 0)
 abbrev pub between : ℤ → ℤ → ℤ → Bool
 between low high z = leZ low z && leZ z high
 
+abbrev pub same : ℤ → ℤ → Bool
+same wanted z = between wanted wanted z
+
 -- a UTC day of a table: -120,000 to 100,000
 abbrev pub utcDay : ℤ → Bool
 utcDay d = between (negsuc 119999) (pos 100000) d
@@ -33,7 +36,7 @@ firstEntry d o = utcDay d && between (pos 0) (pos 1000) o
 
 -- after entry (d, o): days strictly rise, and the offset is one more
 unfoldable pub nextEntry : ℤ → ℤ → ℤ → ℤ → Bool
-nextEntry d o d′ o′ = utcDay d′ && (ltZ d d′ && between (o +ℤ pos 1) (o +ℤ pos 1) o′)
+nextEntry d o d′ o′ = utcDay d′ && (ltZ d d′ && same (o +ℤ pos 1) o′)
 
 unfoldable pub goodEntry : List ℤ → ℕ → Bool
 goodEntry leap zero = firstEntry (day leap 0) (offset leap 0)

@@ -1,3 +1,4 @@
 pub mod Leap
 pub mod Clock
 pub mod Answers
+pub mod Examples

@@ -1,13 +1,13 @@
 -- Days of a year: a date is its year and how many days of that year are over, and the other way round. Assumes nothing.
-use Prim.Native.Nat.{ℕ, zero, suc, _+_, _-_, _<_, _≤_}
-use mathlib.Core.Path.{_≡_, refl, sym, ap, _∙_, subst}
-use mathlib.Core.Bool.{Bool, true, false, cond, _&&_}
-use mathlib.Core.List.{List, [], _∷_}
-use lib.IntN.{ℤ, pos, negsuc, natAbs, _+ℤ_, _-ℤ_, _*ℤ_}
-use lib.Signed.{leZ, ltZ, _≤ℤ_, _<ℤ_}
+use Prim.Native.Nat.{ℕ, zero, suc, _+_, _-_, _<_}
+use mathlib.Core.Path.{_≡_, refl, ap, _∙_}
+use mathlib.Core.Bool.{Bool, true, false, _&&_}
+use mathlib.Core.List.{[], _∷_}
+use lib.IntN.{ℤ, pos, negsuc, natAbs, _+ℤ_, _-ℤ_}
+use lib.Signed.{leZ, _≤ℤ_}
 use lib.ListN.{length, getD, take}
 use native.Mathlib.Omega.{arith}
-use Rattle.whole.specs.Parts.{ℤ-rules, ≤→, ≡→, _⩽_, _≺_, posPart, negPart}
+use Rattle.whole.specs.Parts.{ℤ-rules, ≤→, ≡→, _⩽_, _≺_}
 use Rattle.whole.specs.Laws.{abs-of-nonneg}
 use Rattle.whole.specs.Solver.{⇑, ⇓, ring, le-yes, yes-le}
 use Rattle.dates.specs.declared.Date.{Date}

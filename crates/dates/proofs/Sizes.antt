@@ -1,25 +1,21 @@
 -- How large the numbers of dates are. Assumes nothing.
-use Prim.Native.Nat.{ℕ, zero, suc, _+_, _-_, _<_, _≤_}
-use mathlib.Core.Path.{_≡_, refl, sym, ap, _∙_, subst}
-use mathlib.Core.Bool.{Bool, true, false, not, cond, _&&_}
+use Prim.Native.Nat.{ℕ, zero, suc, _-_, _<_, _≤_}
+use mathlib.Core.Path.{_≡_}
+use mathlib.Core.Bool.{Bool, true, false, cond}
 use mathlib.Core.List.{List, [], _∷_}
-use lib.IntN.{ℤ, pos, negsuc, natAbs, _+ℤ_, _-ℤ_, _*ℤ_}
-use lib.Signed.{leZ, ltZ, _≤ℤ_, _<ℤ_}
-use lib.ListN.{length, getD, take}
+use lib.IntN.{ℤ, pos, negsuc, natAbs, _-ℤ_}
+use lib.Signed.{leZ, ltZ}
+use lib.ListN.{getD}
 use native.Mathlib.Omega.{arith}
-use Rattle.whole.specs.Parts.{ℤ-rules, ≤→, <→, ≡→, _⩽_, _≺_}
+use Rattle.whole.specs.Parts.{ℤ-rules, _⩽_}
 use Rattle.whole.specs.Laws.{abs-of-nonneg}
-use Rattle.whole.specs.Solver.{⇑, ⇓, ring, le-yes, lt-yes, lt-no, no-le}
+use Rattle.whole.specs.Solver.{⇑, ⇓, ring, le-yes}
 use Rattle.whole.specs.Ranges.{Within, within, bounds}
-use Rattle.whole.specs.Floor.{floorDiv, floorMod, bound-floor}
-use Rattle.refusals.specs.Verdict.{Verdict, answered, refused}
-use Rattle.dates.specs.declared.Date.{Date}
-use Rattle.dates.specs.declared.Day.{Day}
-use Rattle.dates.specs.Calendar.{leapYear, leapYearsTo, newYear, monthLengths, lengthsIn, sum, yearLength, guess, yearOf, monthLength, daysBefore, valid, dayNumber}
-use Rattle.dates.specs.Answers.{hasDate, dateOf, dayOf}
-use Rattle.dates.proofs.Years.{next-year, in-order}
+use Rattle.whole.specs.Floor.{bound-floor}
+use Rattle.dates.specs.Calendar.{leapYear, newYear, monthLengths, lengthsIn, sum, yearLength, guess, yearOf, monthLength, daysBefore}
+use Rattle.dates.specs.Answers.{hasDate}
 use Rattle.dates.proofs.Months.{take-below}
-use Rattle.dates.proofs.Days.{both, Valid, valid-says, Placed, placed, number-at, place-within, length-at}
+use Rattle.dates.proofs.Days.{both, Valid}
 
 -- ---- months
 lengths-sum : (leap : Bool) → sum (monthLengths leap) < 400

@@ -1,12 +1,11 @@
 -- What the tests of the code tell of the definitions. Assumes nothing.
-use Prim.Native.Nat.{ℕ, _<_, _≤_}
-use mathlib.Core.Path.{_≡_, refl, sym, ap, _∙_, subst}
-use mathlib.Core.Bool.{Bool, true, false, not, cond, _&&_, _||_}
-use lib.IntN.{ℤ, pos, negsuc, natAbs, _+ℤ_, _-ℤ_, _*ℤ_}
-use lib.Signed.{leZ, ltZ, _≤ℤ_, _<ℤ_, mag}
-use native.Mathlib.Omega.{arith}
+use Prim.Native.Nat.{ℕ}
+use mathlib.Core.Path.{_≡_}
+use mathlib.Core.Bool.{true, false}
+use lib.IntN.{ℤ, pos, negsuc}
+use lib.Signed.{leZ, ltZ, _≤ℤ_, _<ℤ_}
 use borrow.Author.Tests.{eq-eqb, ne-eqb}
-use Rattle.whole.specs.Parts.{ℤ-rules, ≤→, <→}
+use Rattle.whole.specs.Parts.{ℤ-rules}
 use Rattle.whole.specs.Solver.{lt-yes, lt-no, yes-le, no-le}
 use Rattle.whole.specs.Floor.{floorMod}
 use Rattle.dates.specs.Calendar.{divides, leapYear, monthLength, validDate}

@@ -1,25 +1,25 @@
 -- What makes the day number believable, and that dates and days undo each other. The first day is 2000-01-01, the date after a date has the next
 -- number, every day has a valid date with its number, and a valid date is the date of its number. Assumes nothing.
-use Prim.Native.Nat.{ℕ, zero, suc, _+_, _-_, _<_, _≤_}
+use Prim.Native.Nat.{ℕ, suc, _+_, _<_}
 use mathlib.Core.Path.{_≡_, refl, sym, ap, _∙_, subst}
 use mathlib.Core.Bool.{Bool, true, false, cond}
-use mathlib.Core.List.{List, [], _∷_}
-use lib.IntN.{ℤ, pos, negsuc, natAbs, _+ℤ_, _-ℤ_, _*ℤ_}
-use lib.Signed.{leZ, ltZ, _≤ℤ_, _<ℤ_}
+use mathlib.Core.List.{[], _∷_}
+use lib.IntN.{ℤ, pos, _+ℤ_}
+use lib.Signed.{ltZ}
 use lib.ListN.{length, getD, take}
 use native.Mathlib.Omega.{arith}
-use Rattle.whole.specs.Parts.{ℤ-rules, ≤→, <→, _⩽_, _≺_}
-use Rattle.whole.specs.Solver.{⇑, ⇓, ring, lt-yes, lt-no}
+use Rattle.whole.specs.Parts.{ℤ-rules, _⩽_}
+use Rattle.whole.specs.Solver.{⇑, ⇓, ring, lt-no}
 use Rattle.whole.specs.Floor.{floorDiv, floorMod}
-use Rattle.refusals.specs.Verdict.{Verdict, answered, refused}
+use Rattle.refusals.specs.Verdict.{answered}
 use Rattle.dates.specs.declared.Date.{Date}
 use Rattle.dates.specs.declared.Day.{Day}
 use Rattle.dates.specs.Answers.{hasDate, dateOf, dayOf}
-use Rattle.dates.specs.Calendar.{divides, leapYear, leapYearsTo, newYear, monthLengths, lengthsIn, sum, yearLength, yearOf, monthLength, daysBefore, monthsOver, validDate, numberOf, valid, dayNumber, dateInYear, dateFor, dateAfter}
+use Rattle.dates.specs.Calendar.{leapYear, leapYearsTo, newYear, monthLengths, lengthsIn, sum, yearLength, yearOf, monthLength, daysBefore, numberOf, valid, dayNumber, dateFor, dateAfter}
 use Rattle.dates.proofs.Refused.{date-refused, date-found, no-date, no-day, day-found}
 use Rattle.dates.proofs.Years.{next-year}
 use Rattle.dates.proofs.Months.{take-next, take-all}
-use Rattle.dates.proofs.Days.{dateAt, Placed, placed, number-at, length-at, place-within, date-at, daysOver, day-is, day-within, date-is, number-in-year, valid-in-year, date-in-year, twelve}
+use Rattle.dates.proofs.Days.{dateAt, placed, number-at, length-at, place-within, date-at, daysOver, day-is, day-within, date-is, number-in-year, valid-in-year, date-in-year, twelve}
 
 -- ---- from a day to its date and back
 pub date-has-number : (n : ℤ) → dayNumber (dateFor n) ≡ n

@@ -1,18 +1,18 @@
 -- Where years begin: a year begins its own length before the next, and the year of a day is the one in which it lies. Assumes nothing.
-use Prim.Native.Nat.{ℕ, _+_, _-_, _<_, _≤_}
+use Prim.Native.Nat.{ℕ, _-_, _<_}
 use mathlib.Core.Path.{_≡_, refl, sym, ap, _∙_, subst}
 use mathlib.Core.Bool.{Bool, true, false, not, cond, _&&_, _||_}
 use mathlib.Core.List.{List, [], _∷_}
 use mathlib.Core.Logic.{⊎-elim}
-use lib.IntN.{ℤ, pos, negsuc, natAbs, _+ℤ_, _-ℤ_, _*ℤ_}
-use lib.Signed.{leZ, ltZ, _≤ℤ_, _<ℤ_}
+use lib.IntN.{ℤ, pos, _+ℤ_, _-ℤ_, _*ℤ_}
+use lib.Signed.{ltZ, _≤ℤ_, _<ℤ_}
 use borrow.Author.Tests.{eqb-true, eqb-false, eq-eqb}
 use native.Mathlib.Omega.{arith}
-use Rattle.whole.specs.Parts.{ℤ-rules, _⩽_, _≺_}
+use Rattle.whole.specs.Parts.{_⩽_, _≺_}
 use Rattle.whole.specs.Laws.{≤-total, ≤-antisymm, ≤-of-≡}
 use Rattle.whole.specs.Solver.{⇑, ⇓, ring, lt-yes, lt-no}
 use Rattle.whole.specs.Floor.{floorDiv, floorMod, floorDiv-floorMod, floorMod-lt, floorDiv-low, floorDiv-high, floorDiv-unique, floorMod-unique}
-use Rattle.dates.specs.Calendar.{divides, leapYear, leapYearsTo, newYear, monthLengths, lengthsIn, sum, yearLength, guess, yearOf}
+use Rattle.dates.specs.Calendar.{divides, leapYear, leapYearsTo, newYear, monthLengths, sum, yearLength, guess, yearOf}
 
 -- ---- how many multiples of m there are: one more at y exactly where m divides y
 more : (y : ℤ) (m : ℕ) → 0 < m → divides m y ≡ true → floorDiv (y -ℤ pos 1) m ≡ floorDiv y m -ℤ pos 1

@@ -3,7 +3,7 @@
 use mathlib.Core.Bool.{Bool, not, _&&_}
 use lib.IntN.{ℤ, pos, negsuc}
 use lib.Signed.{leZ}
-use Rattle.refusals.specs.Verdict.{Verdict, answered, refused, refusal, refuseWhen, _before_}
+use Rattle.refusals.specs.Verdict.{Verdict, answered, refusal, refuseWhen, _before_}
 use Rattle.dates.specs.declared.Date.{Date}
 use Rattle.dates.specs.declared.Day.{Day}
 use Rattle.dates.specs.declared.DateAnswer.{DateAnswer}

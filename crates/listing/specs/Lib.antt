@@ -3,3 +3,4 @@ pub mod Parts
 pub mod Listing
 pub mod Lines
 pub mod Nth
+pub mod Ready

@@ -2,18 +2,17 @@
 -- and where nothing lies inside the mark is found. Assumes nothing.
 use mathlib.Core.Path.{_≡_, refl, sym, ap, _∙_, subst}
 use mathlib.Core.Logic.{⊎-elim}
-use Prim.Native.Nat.{ℕ, _+_, _*_, _^_, _≤_, _<_}
+use Prim.Native.Nat.{ℕ, _^_, _≤_, _<_}
 use native.Mathlib.Omega.{arith}
 use lib.IntN.{ℤ, pos, _+ℤ_, _-ℤ_, _*ℤ_}
 use lib.Signed.{_≤ℤ_, _<ℤ_}
-use Rattle.whole.specs.Parts.{posPart, negPart, ℤ-rules, ≤→, →≤, <→, →<, ≡→, →≡, parts-add}
+use Rattle.whole.specs.Parts.{ℤ-rules, →≤, parts-add}
 use Rattle.whole.specs.Laws.{<→≤, ≤-trans, ≤-antisymm, ≤-total}
 use Rattle.whole.specs.Ranges.{Within, within→}
 use Rattle.whole.specs.Distance.{distanceFrom}
 use Rattle.series.specs.Rising.{Rising}
 use Rattle.marks.specs.Marks.{indexAt, secondOf}
 use Rattle.marks.specs.Indices.{clash, back-one, lies-after, distances-add, distance-positive, reached, ahead}
-use Rattle.marks.specs.Crossings.{Crossing, marked}
 use Rattle.marks.specs.Located.{located-only}
 use Rattle.marks.proofs.Halves.{Inside}
 

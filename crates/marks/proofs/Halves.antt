@@ -5,19 +5,24 @@ use mathlib.Core.List.{List, [], _∷_, _++_}
 use Prim.Native.Nat.{ℕ, zero, suc, _+_, _*_, _-_, _/_, _^_, _≤_, _<_}
 use native.Mathlib.Omega.{arith}
 use lib.ListN.{length}
-use lib.IntN.{ℤ, pos, _+ℤ_, _-ℤ_, _*ℤ_}
+use lib.IntN.{ℤ, pos, _+ℤ_}
 use lib.Signed.{_≤ℤ_, _<ℤ_}
-use Rattle.whole.specs.Parts.{posPart, negPart, ℤ-rules, ≤→, →≤, <→, →<, ≡→, →≡, parts-add}
-use Rattle.whole.specs.Laws.{≤-antisymm, ≤-trans, <→≤, ≤-total}
-use Rattle.whole.specs.Floor.{floorDiv, floorDiv-ge, floorDiv-low}
+use Rattle.whole.specs.Parts.{ℤ-rules, →≤, →≡, parts-add}
+use Rattle.whole.specs.Laws.{≤-antisymm, <→≤, ≤-total}
 use Rattle.whole.specs.Distance.{distanceFrom}
-use Rattle.whole.specs.Solver.{⇑, ⇓, ring}
+use Rattle.series.specs.declared.Body.{Body}
 use Rattle.series.specs.Rising.{Rising}
-use Rattle.marks.specs.Marks.{Mark, indexAt, marks}
+use Rattle.series.specs.Bodies.{numbers}
+use Rattle.series.specs.Series.{valueAt, lastSecond}
+use Rattle.series.specs.Acceptance.{Accepted}
+use Rattle.series.specs.Theorems.{accepted-rises}
+use Rattle.marks.specs.Marks.{indexAt, marks}
 use Rattle.marks.specs.Indices.{lies-after, distance-of, distances-add, distance-positive, index-mono}
-use Rattle.marks.specs.Stretches.{joined, none, neighbours, length-is, few}
+use Rattle.marks.specs.StretchLaws.{joined, none, neighbours, length-is, few}
 use Rattle.marks.specs.Words.{words, words-append}
 use Rattle.marks.specs.Stretch.{Stretch}
+use Rattle.marks.specs.Listed.{firstReached, lastReached}
+use Rattle.marks.specs.Span.{span-ordered, span-few}
 
 -- a second strictly inside a stretch
 pub record Inside (lo hi middle : ℤ) : Type 0 where
@@ -133,7 +138,9 @@ module _ {v : ℤ → ℤ} {mark : ℕ} {first last lo hi lowest highest : ℤ} 
       let n = few-seconds in
       omega arith
 
--- the whole span is a stretch
-pub span : {v : ℤ → ℤ} {mark : ℕ} {first last lowest highest : ℤ} → Rising v first last mark → first ≤ℤ last → distanceFrom first last < 2 ^ 62 → lowest ≡ indexAt v mark first → highest ≡ indexAt v mark last →
-    Stretch v mark first last first last lowest highest (2 * distanceFrom lowest highest)
-span rising ordered short p q = record { rising = rising; short = short; from-first = →≤ (omega arith); ordered = ordered; by-last = →≤ (omega arith); at-lo = p; at-hi = q; room-is = refl }
+-- the whole span of an accepted series is a stretch
+pub span : (body : Body) (start : ℤ) (coefs : List ℤ) → Accepted body start coefs → {lowest highest : ℤ} → lowest ≡ firstReached body start coefs → highest ≡ lastReached body start coefs →
+    Stretch (valueAt body start coefs) (numbers body .mark) start (lastSecond body start coefs) start (lastSecond body start coefs) lowest highest (2 * distanceFrom lowest highest)
+span body start coefs e p q =
+    let few = span-few body start coefs e in
+    record { rising = accepted-rises body start coefs e; short = omega arith; from-first = →≤ (omega arith); ordered = span-ordered body start coefs e; by-last = →≤ (omega arith); at-lo = p; at-hi = q; room-is = refl }

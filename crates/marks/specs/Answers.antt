@@ -1,7 +1,7 @@
 -- What the two entry points answer, on paper, and what the lent list holds afterwards (document 01, "Marks" and "Refusal numbers"): 2 to 5 for the series, then
--- 12 where the lent room has fewer places than there are marks. A place is two words, index and second. Assumes nothing: these are definitions.
+-- 12 where the lent room has fewer places than the marks fill. A place is two words, index and second. Assumes nothing: these are definitions.
 use mathlib.Core.List.{List, _++_}
-use Prim.Native.Nat.{ℕ, _/_}
+use Prim.Native.Nat.{ℕ}
 use lib.Dec.{ltb}
 use lib.ListN.{length, drop}
 use lib.IntN.{ℤ}
@@ -31,7 +31,7 @@ module _ (body : Body) (start : ℤ) (coefs : List ℤ) where
 
   -- the same, where there is room for them: `room` is in words
   abbrev pub listedInto : ℕ → Verdict ℕ
-  listedInto room = judged body start coefs before refuseWhen (ltb (room / 2) (length (listedMarks body start coefs))) 12 before answered (length (listedMarks body start coefs))
+  listedInto room = judged body start coefs before refuseWhen (ltb room (length (words (listedMarks body start coefs)))) 12 before answered (length (listedMarks body start coefs))
 
 -- A lent slice afterwards: as it was where the call is refused; else the words, and behind them what stood there.
 abbrev pub held : Verdict ℕ → List ℤ → List ℤ → List ℤ

@@ -1,21 +1,21 @@
 -- Demand 3 (a): the defined list of a rising value is exactly its crossings, each once, in time order. The two theorems are `listed-exactly` and
 -- `listed-in-time-order`, at the end; `one-second` and `one-index` say that a mark has one second and a second one mark. Assumes nothing.
-use mathlib.Core.Path.{_≡_, refl, sym, ap, ap₂, _∙_, subst}
+use mathlib.Core.Path.{_≡_, refl, sym, ap₂, _∙_, subst}
 use mathlib.Core.Bool.{Bool, true, false, cond}
-use mathlib.Core.Logic.{_⊎_, ⊎-elim, _↔_}
-use mathlib.Core.List.{List, [], _∷_, _++_, List·Memᴰ, List·Memᴰ·head, List·Memᴰ·not-nil, List·Memᴰ·append-cases, List·Memᴰ·eq-of-singleton, Memᴰ·append-left, Memᴰ·append-right}
-use Prim.Native.Nat.{ℕ, zero, suc, _+_, _≤_, _<_}
+use mathlib.Core.Logic.{⊎-elim, _↔_}
+use mathlib.Core.List.{List, [], _∷_, List·Memᴰ, List·Memᴰ·head, List·Memᴰ·not-nil, List·Memᴰ·append-cases, List·Memᴰ·eq-of-singleton, Memᴰ·append-left, Memᴰ·append-right}
+use Prim.Native.Nat.{ℕ, zero, suc}
 use native.Mathlib.Omega.{arith}
 use lib.IntN.{ℤ, pos, _+ℤ_, _-ℤ_, _*ℤ_}
 use lib.Signed.{ltZ, _≤ℤ_, _<ℤ_}
-use Rattle.whole.specs.Parts.{posPart, negPart, ℤ-rules, ≤→, →≤, <→, →<, ≡→, →≡, parts-add}
-use Rattle.whole.specs.Laws.{≤-antisymm, ≤-trans, <-≤-trans, ≤-<-trans, <→≤, ≤-of-≡, ≤-total}
+use Rattle.whole.specs.Parts.{ℤ-rules, →≤, →≡, parts-add}
+use Rattle.whole.specs.Laws.{≤-antisymm, ≤-trans, <-≤-trans, ≤-<-trans, ≤-total}
 use Rattle.whole.specs.Distance.{distanceFrom}
 use Rattle.whole.specs.Solver.{lt-yes}
 use Rattle.series.specs.Rising.{Rising}
 use Rattle.marks.specs.Marks.{Mark, indexAt, markAt, marksAfter, marks}
-use Rattle.marks.specs.Indices.{clash, next, back-one, one-before, lies-after, reached, reaches, ahead, not-reached, index-rises, index-rises-by-one, index-mono}
-use Rattle.marks.specs.Stretches.{lists-none, lists-one}
+use Rattle.marks.specs.Indices.{clash, next, back-one, one-before, lies-after, reached, reaches, ahead, not-reached, index-rises-by-one, index-mono}
+use Rattle.marks.specs.StretchLaws.{lists-none, lists-one}
 
 -- ---- what is claimed
 

@@ -1,19 +1,19 @@
 -- Demand 3 (b) and (c): the listed marks against the exact sum, of which the value is the rounded one. (b) `exact-before`, `exact-after`: two seconds before a listed mark's second
 -- the exact sum is under the mark, one second after it is over. (c) `exact-crossing-listed`: where the exact sum goes from under a mark to it or over, that mark is
 -- listed, at most one second away. Both are proved over any value and exact sum that go together (`Tracking` of crate series). Assumes nothing.
-use mathlib.Core.Path.{_≡_, refl, sym, ap, _∙_, subst}
-use mathlib.Core.Logic.{_⊎_, inl, inr, ⊎-elim}
+use mathlib.Core.Path.{_≡_, refl}
+use mathlib.Core.Logic.{_⊎_, ⊎-elim}
 use mathlib.Core.List.{List, [], _∷_}
-use Prim.Native.Nat.{ℕ, _+_, _*_, _≤_, _<_}
+use Prim.Native.Nat.{ℕ, _+_}
 use native.Mathlib.Omega.{arith}
 use lib.IntN.{ℤ, pos, negℤ, _+ℤ_, _-ℤ_, _*ℤ_}
 use lib.Signed.{_≤ℤ_, _<ℤ_}
-use Rattle.whole.specs.Parts.{posPart, negPart, ℤ-rules, ≤→, →≤, <→, →<, ≡→, →≡, parts-add}
+use Rattle.whole.specs.Parts.{posPart, negPart, ℤ-rules, →≤, parts-add}
 use Rattle.whole.specs.Laws.{≤-total, ≤-trans, ≤-<-trans, <→≤, *-mono}
 use Rattle.whole.specs.Solver.{⇑, ⇓, ring}
 use Rattle.series.specs.Rising.{Rising, Tracking}
-use Rattle.marks.specs.Marks.{Mark, indexAt, marks, secondOf}
-use Rattle.marks.specs.Indices.{clash, back-one, one-before, not-reached, reaches, index-mono}
+use Rattle.marks.specs.Marks.{indexAt, marks, secondOf}
+use Rattle.marks.specs.Indices.{clash, one-before, not-reached, reaches, index-mono}
 use Rattle.marks.specs.Crossings.{Crossing, _∈_, marked, listed-exactly}
 use Rattle.marks.specs.Located.{located, side}
 

@@ -2,13 +2,13 @@
 -- Assumes nothing.
 use mathlib.Core.Path.{_≡_, refl, sym, ap, _∙_, subst}
 use mathlib.Core.List.{List, [], _∷_}
-use mathlib.Core.Logic.{_⊎_, inl, inr, ⊎-elim}
-use Prim.Native.Nat.{ℕ, zero, suc, _+_, _*_, _≤_, _<_}
+use mathlib.Core.Logic.{⊎-elim}
+use Prim.Native.Nat.{ℕ, zero, suc, _+_, _<_}
 use native.Mathlib.Omega.{arith}
 use lib.IntN.{ℤ, pos, negℤ, natAbs, _+ℤ_, _-ℤ_, _*ℤ_}
 use lib.Signed.{_≤ℤ_, _<ℤ_}
-use Rattle.whole.specs.Parts.{posPart, negPart, ℤ-rules, ≤→, →≤, <→, →<, ≡→, →≡, parts-add, posPart-neg, negPart-neg}
-use Rattle.whole.specs.Laws.{≤-total, ≤-trans, <-≤-trans, ≤-<-trans, <→≤, *-mono, abs-of-nonneg}
+use Rattle.whole.specs.Parts.{posPart, negPart, ℤ-rules, →≤, →≡, parts-add}
+use Rattle.whole.specs.Laws.{≤-total, ≤-trans, <→≤, *-mono, abs-of-nonneg}
 use Rattle.whole.specs.Floor.{floorDiv, floorDiv-ge, floorDiv-le, floorDiv-low, floorDiv-high, floorDiv-mono}
 use Rattle.whole.specs.Distance.{distanceFrom}
 use Rattle.whole.specs.Solver.{⇑, ⇓, ring}

@@ -1,6 +1,6 @@
 pub mod Marks
 pub mod Indices
-pub mod Stretches
+pub mod StretchLaws
 pub mod Crossings
 pub mod Located
 pub mod Words

@@ -1,7 +1,6 @@
 -- The marks of a series: those of its whole span (document 01, "Marks"), the indices at the span's two ends, and the second of one of its marks.
 -- Assumes nothing: these are definitions.
 use mathlib.Core.List.{List}
-use Prim.Native.Nat.{ℕ}
 use lib.IntN.{ℤ}
 use Rattle.series.specs.Bodies.{numbers}
 use Rattle.series.specs.Series.{valueAt, lastSecond}

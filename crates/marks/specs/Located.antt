@@ -2,21 +2,21 @@
 -- it. The k-th listed mark, from 0, is the one with index k + 1 more than the first second's (`listed-located`, `nth-listed`). Assumes nothing.
 use mathlib.Core.Path.{_≡_, refl, sym, ap, ap₂, _∙_, subst}
 use mathlib.Core.Bool.{Bool, true, false, cond}
-use mathlib.Core.Logic.{_⊎_, ⊎-elim, _↔_}
-use mathlib.Core.List.{List, [], _∷_, _++_, List·Memᴰ·head, Memᴰ·append-left, Memᴰ·append-right}
-use Prim.Native.Nat.{ℕ, zero, suc, _+_, _≤_, _<_}
+use mathlib.Core.Logic.{⊎-elim, _↔_}
+use mathlib.Core.List.{List, [], _∷_, List·Memᴰ·head, Memᴰ·append-left, Memᴰ·append-right}
+use Prim.Native.Nat.{ℕ, zero, suc, _<_}
 use native.Mathlib.Omega.{arith}
 use lib.ListN.{length, getD}
-use lib.IntN.{ℤ, pos, _+ℤ_, _-ℤ_, _*ℤ_}
+use lib.IntN.{ℤ, pos, _+ℤ_, _-ℤ_}
 use lib.Signed.{leZ, _≤ℤ_, _<ℤ_}
-use Rattle.whole.specs.Parts.{posPart, negPart, ℤ-rules, ≤→, →≤, <→, →<, ≡→, →≡, parts-add}
-use Rattle.whole.specs.Laws.{≤-antisymm, ≤-trans, <-≤-trans, ≤-<-trans, <→≤, ≤-total}
+use Rattle.whole.specs.Parts.{ℤ-rules, →≤, →≡, parts-add}
+use Rattle.whole.specs.Laws.{≤-trans, ≤-<-trans, <→≤, ≤-total}
 use Rattle.whole.specs.Distance.{distanceFrom}
 use Rattle.whole.specs.Solver.{le-yes, le-no}
 use Rattle.series.specs.Rising.{Rising}
 use Rattle.marks.specs.Marks.{Mark, indexAt, markAt, marksAfter, marks, secondAfter, secondOf}
 use Rattle.marks.specs.Indices.{clash, next, back-one, one-before, lies-after, reached, reaches, ahead, not-reached, index-rises, index-rises-by-one, index-mono}
-use Rattle.marks.specs.Stretches.{lists-none, lists-one, length-is}
+use Rattle.marks.specs.StretchLaws.{lists-none, lists-one, length-is}
 use Rattle.marks.specs.Crossings.{Crossing, _∈_, marked, sooner, listed-exactly, one-second}
 
 -- ---- what is claimed

@@ -1,18 +1,15 @@
 -- The span of an accepted series has a second, and few enough; the values in it are small enough. Assumes nothing.
-use mathlib.Core.Path.{_≡_, ap, _∙_, refl}
 use mathlib.Core.List.{List, [], _∷_}
-use Prim.Native.Nat.{ℕ, _+_, _*_, _-_, _≤_, _<_}
+use Prim.Native.Nat.{_*_, _≤_, _<_}
 use native.Mathlib.Omega.{arith}
 use native.Mathlib.Nat.{mul-le-mul}
-use lib.IntN.{ℤ, pos, _+ℤ_, _-ℤ_}
+use lib.IntN.{ℤ, pos}
 use lib.Signed.{_≤ℤ_}
-use Rattle.whole.specs.Parts.{ℤ-rules, →≤, parts-add}
 use Rattle.whole.specs.Ranges.{Within}
 use Rattle.whole.specs.Solver.{⇑, ⇓, ring}
 use Rattle.whole.specs.Distance.{distanceFrom}
 use Rattle.chebyshev.specs.Theorems.{value-bound}
 use Rattle.series.specs.declared.Body.{Body}
-use Rattle.series.specs.Bodies.{numbers}
 use Rattle.series.specs.Series.{segments, segmentLength, segmentAt, InSpan, lastSecond, valueAt}
 use Rattle.series.specs.Acceptance.{Accepted}
 use Rattle.series.specs.Accepted.{Facts}

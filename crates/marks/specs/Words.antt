@@ -1,7 +1,7 @@
 -- Listed marks as the words of a lent slice: two to a mark, its index and its second. Assumes nothing.
-use mathlib.Core.Path.{_≡_, refl, ap}
+use mathlib.Core.Path.{_≡_, refl}
 use mathlib.Core.List.{List, [], _∷_, _++_}
-use Prim.Native.Nat.{ℕ, _+_, _*_}
+use Prim.Native.Nat.{_*_}
 use native.Mathlib.Omega.{arith}
 use lib.ListN.{length}
 use lib.IntN.{ℤ}
@@ -14,7 +14,7 @@ words (m ∷ l) = m .index ∷ m .second ∷ words l
 pub words-append : (l k : List Mark) → words l ++ words k ≡ words (l ++ k)
 unfolding words
 words-append [] k = refl
-words-append (m ∷ l) k = ap (λ (w : List ℤ). m .index ∷ m .second ∷ w) (words-append l k)
+words-append (m ∷ l) k = rw (words-append l k)
 
 pub words-length : (l : List Mark) → length (words l) ≡ 2 * length l
 unfolding words

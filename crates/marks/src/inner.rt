@@ -31,14 +31,31 @@ pub fn index_at(body: Body, start: Second, coefs: &[i64], second: Second) -> i64
     whole::inner::floor_div(value, mark_size(body))
 }
 
+// The same at the first second of the span. A mark is listed when its index is larger ..
+pub fn first_reached(body: Body, start: Second, coefs: &[i64]) -> i64
+    requires { ⌜ Accepted body (start .0) (now coefs) ⌝ }
+    ensures { λ r. ⌜ r ≡ firstReached body (start .0) (now (coefs .entry)) ⌝ }
+{
+    index_at(body, start, coefs, start)
+}
+
+// .. and not larger than at the last.
+pub fn last_reached(body: Body, start: Second, coefs: &[i64]) -> i64
+    requires { ⌜ Accepted body (start .0) (now coefs) ⌝ }
+    ensures { λ r. ⌜ r ≡ lastReached body (start .0) (now (coefs .entry)) ⌝ }
+{
+    let last = series::inner::last_second(body, start, coefs);
+    index_at(body, start, coefs, Second(last))
+}
+
 // How many marks are listed.
 pub fn count(body: Body, start: Second, coefs: &[i64]) -> usize
     requires { ⌜ Accepted body (start .0) (now coefs) ⌝ }
     ensures { λ r. ⌜ r ≡ length (listedMarks body (start .0) (now (coefs .entry))) ⌝ }
 {
-    let last = series::inner::last_second(body, start, coefs);
-    let lowest = index_at(body, start, coefs, start);
-    whole::inner::distance(lowest, index_at(body, start, coefs, Second(last)))
+    let lowest = first_reached(body, start, coefs);
+    let highest = last_reached(body, start, coefs);
+    whole::inner::distance(lowest, highest)
 }
 
 // The second of a listed mark, by its index. It looks by proportion, and halves after each guess that left more than half.

@@ -102,10 +102,11 @@ pub fn list_marks(body: Body, start: Second, coefs: &[i64], out: &mut [i64]) -> 
     }
     let first = start.0;
     let last = series::inner::last_second(body, start, coefs);
-    let lowest = inner::index_at(body, start, coefs, start);
-    let highest = inner::index_at(body, start, coefs, Second(last));
+    let lowest = inner::first_reached(body, start, coefs);
+    let highest = inner::last_reached(body, start, coefs);
     let count = whole::inner::distance(lowest, highest);
-    if out.len() / 2 < count {
+    let needed = 2 * count;
+    if out.len() < needed {
         return ListAnswer::Refused(Refusal {
             number: 12,
             segment: 0,
@@ -119,7 +120,7 @@ pub fn list_marks(body: Body, start: Second, coefs: &[i64], out: &mut [i64]) -> 
         last,
         lowest,
         highest,
-        &mut out[..2 * count],
+        &mut out[..needed],
     );
     ListAnswer::Marks(count)
 }

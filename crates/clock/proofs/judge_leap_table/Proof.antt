@@ -1,14 +1,8 @@
 -- `clock::judge_leap_table` meets its contract. Assumes nothing.
 use Rattle.clock.specs.Leap.{lawful}
 use Rattle.clock.proofs.Judged.{table-accepted, table-refused}
-use mathlib.Core.Path.{_≡_, refl, sym, ap, _∙_}
-use mathlib.Core.Bool.{true, false}
-use lib.IntN.{ℤ, pos, negsuc}
-use lib.Signed.{_<ℤ_, _≤ℤ_, ltZ, leZ}
+use mathlib.Core.Path.{sym, _∙_}
 use borrow.Author.Needs.{needs}
-use mir.Syntax.{w64}
-use mir.Val.{SFits}
-use mir.Facts.{toZ-ofZ}
 use Rattle.clock.proofs.judge_leap_table.Statement.{statement}
 use Rattle.clock.proofs.judge_leap_table.Tie as tie
 

@@ -1,17 +1,9 @@
 -- `dates::date_of` meets its contract. Assumes nothing.
 use Rattle.refusals.specs.Verdict.{answered}
-use Rattle.dates.specs.Calendar.{dateFor}
-use Rattle.dates.specs.Answers.{hasDate, dateOf}
 use Rattle.dates.proofs.Refused.{date-refused, date-found}
-use mathlib.Core.Path.{_≡_, refl, sym, ap, _∙_}
-use mathlib.Core.Bool.{true, false}
-use lib.IntN.{ℤ, pos, negsuc}
-use lib.Signed.{_<ℤ_, _≤ℤ_, ltZ}
+use mathlib.Core.Path.{sym, ap, _∙_}
 use borrow.Author.Needs.{needs}
 use borrow.Author.Tests.{not-true, not-false}
-use mir.Syntax.{w64}
-use mir.Val.{SFits}
-use mir.Facts.{toZ-ofZ}
 use Rattle.dates.proofs.date_of.Statement.{statement}
 use Rattle.dates.proofs.date_of.Tie as tie
 

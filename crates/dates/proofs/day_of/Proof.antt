@@ -1,15 +1,14 @@
 -- `dates::day_of` meets its contract. Assumes nothing.
 use native.Mathlib.Omega.{arith}
 use mathlib.Core.List.{[], _∷_}
-use Rattle.whole.specs.Parts.{_⩽_}
-use Rattle.whole.specs.Solver.{⇑, ⇓, ring, lt-no}
-use Rattle.dates.specs.Answers.{hasDate, dayOf}
-use Rattle.dates.specs.Calendar.{valid, dayNumber}
+use Rattle.whole.specs.Solver.{⇑, ⇓, ring}
+use Rattle.dates.specs.Answers.{hasDate}
+use Rattle.dates.specs.Calendar.{valid}
 use Rattle.dates.proofs.Refused.{too-early, too-late, no-date, no-day, day-found}
-use mathlib.Core.Path.{_≡_, refl, sym, ap, _∙_}
-use mathlib.Core.Bool.{true, false}
-use lib.IntN.{ℤ, pos, negsuc}
-use lib.Signed.{_<ℤ_, _≤ℤ_, ltZ}
+use mathlib.Core.Path.{_≡_, sym, ap, _∙_}
+use mathlib.Core.Bool.{false}
+use lib.IntN.{pos}
+use lib.Signed.{ltZ}
 use borrow.Author.Needs.{needs}
 use borrow.Author.Tests.{not-true, not-false}
 use mir.Syntax.{w64}

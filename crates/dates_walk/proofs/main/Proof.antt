@@ -1,6 +1,5 @@
 -- `dates_walk::main` meets its contract. The loop's invariant: no count is above the days walked. Assumes nothing.
 use Prim.Native.Nat.{_-_, _≤_}
-use native.Mathlib.Omega.{arith}
 use borrow.Author.Needs.{needs}
 use Rattle.dates_walk.proofs.main.Statement.{statement}
 use Rattle.dates_walk.proofs.main.Tie as tie

@@ -1,12 +1,10 @@
 -- `marks::find` meets its contract. The measure is the number of the stretch's seconds. `at-halves` has every fact about the two halves, from the place after
 -- `distance2` on, which `there` names in the needs behind it. Assumes nothing.
-use mathlib.Core.Path.{_≡_, refl, sym, ap, ap₂, _∙_}
-use mathlib.Core.List.{List, _++_}
+use mathlib.Core.Path.{_≡_, sym, ap, _∙_}
 use native.Mathlib.Omega.{arith}
-use Prim.Native.Nat.{ℕ, _*_, _-_, _≤_, _<_}
+use Prim.Native.Nat.{ℕ, _*_, _≤_, _<_}
 use lib.ListN.{length, length-append, length-set}
 use lib.Seq.{length-take-le}
-use lib.IntN.{ℤ, _+ℤ_, _-ℤ_}
 use borrow.Fn.Kinds.{In}
 use borrow.Fn.PlainCycle.{Measures, is, falls, and}
 use mir.Syntax.{w64}
@@ -16,10 +14,9 @@ use Rattle.whole.specs.Parts.{ℤ-rules}
 use Rattle.whole.specs.Distance.{distanceFrom}
 use Rattle.whole.specs.Ranges.{ofZ-inj}
 use Rattle.series.specs.Bodies.{numbers}
-use Rattle.series.specs.Series.{InSpan, valueAt, lastSecond}
-use Rattle.marks.specs.Words.{words}
-use Rattle.marks.proofs.Bits.{back}
-use Rattle.marks.proofs.Lent.{rest-room, both-parts, both-room, empty, two-set}
+use Rattle.series.specs.Series.{valueAt, lastSecond}
+use Rattle.marks.proofs.Bits.{back, fits-of}
+use Rattle.marks.proofs.Lent.{rest-room, both-written, both-room, empty, two-set}
 use Rattle.marks.proofs.Halves.{Halves, halves, inside, few-seconds, no-marks, no-room, some-seconds, one-mark, one-room, Inside}
 use Rattle.marks.proofs.find.Reads as find
 use Rattle.marks.proofs.find.Kinds as find-kinds
@@ -161,8 +158,15 @@ find-find-requires t c κs =
     let there = c .before in
     let start = there .before .before .before .before .before .before in
     let h = at-halves t (there .before) in
-    rw (toZ-ofZ (start .fits .lo), back (there .before .before .middle .result) (there .before .before .middle .ok), toZ-ofZ (start .fits .lowest), back (there .before .index-at .result) (there .before .index-at .ok), length-take-le (2 * there .distance2 .result) (start .args .out .now) (at-within t there), at-count t there)
-    (let f = h .below-falls in let m = start .pre .0 in omega arith, (start .pre .1 .0, h .below))
+    let fits-lo = start .fits .lo in
+    let fits-hi = start .fits .hi in
+    let fits-middle = fits-of (there .before .before .middle .result) (there .before .before .middle .ok) in
+    let fits-lowest = start .fits .lowest in
+    let fits-highest = start .fits .highest in
+    let fits-between = fits-of (there .before .index-at .result) (there .before .index-at .ok) in
+    simp toZ-ofZ
+    (rw (length-take-le (2 * there .distance2 .result) (start .args .out .now) (at-within t there), at-count t there)
+    (let f = h .below-falls in let m = start .pre .0 in omega arith, (start .pre .1 .0, h .below)))
 
 find-mul-find : (t : ℕ) → find-lts.Need-mul-find (called t) (find-at t) find.Post
 find-mul-find t c =
@@ -186,8 +190,15 @@ find-find-requires-2 t c κs =
     let start = there .before .before .before .before .before .before in
     let h = at-halves t (there .before) in
     let first = c .before .before .find .last .1 .1 .1 .1 .1 .1 .1 .0 in
-    rw (toZ-ofZ (start .fits .hi), back (there .before .before .middle .result) (there .before .before .middle .ok), toZ-ofZ (start .fits .highest), back (there .before .index-at .result) (there .before .index-at .ok), rest-room (start .args .out .now) first (2 * there .distance2 .result) (at-within t there) (at-filled t (c .before .before)), at-count t there)
-    (let f = h .above-falls in let m = start .pre .0 in omega arith, (start .pre .1 .0, h .above))
+    let fits-lo = start .fits .lo in
+    let fits-hi = start .fits .hi in
+    let fits-middle = fits-of (there .before .before .middle .result) (there .before .before .middle .ok) in
+    let fits-lowest = start .fits .lowest in
+    let fits-highest = start .fits .highest in
+    let fits-between = fits-of (there .before .index-at .result) (there .before .index-at .ok) in
+    simp toZ-ofZ
+    (rw (rest-room (start .args .out .now) first (2 * there .distance2 .result) (at-within t there) (at-filled t (c .before .before)), at-count t there)
+    (let f = h .above-falls in let m = start .pre .0 in omega arith, (start .pre .1 .0, h .above)))
 
 find-same-length-2 : (t : ℕ) → find-lts.Need-same-length-2 (called t) (find-at t) find.Post
 find-same-length-2 t c =
@@ -205,13 +216,10 @@ find-returns-3 t c =
     let there = c .before .before .before .before .before .before in
     let start = there .before .before .before .before .before .before in
     let first = c .before .before .before .before .find .last .1 .1 .1 .1 .1 .1 .1 .0 in
-    let second = c .before .find2 .last .1 .1 .1 .1 .1 .1 .1 .0 in
     let middle = back (there .before .before .middle .result) (there .before .before .middle .ok) in
     let wrote-first = rw (toZ-ofZ (start .fits .lo), middle) at (c .before .before .before .before .find .ensures) in
     let wrote-second = rw (toZ-ofZ (start .fits .hi), middle) at (c .before .find2 .ensures) in
-    both-parts (start .args .out .now) first (2 * there .distance2 .result) (at-within t there) (at-filled t (c .before .before .before .before)) second
-    ∙ ap₂ _++_ wrote-first wrote-second
-    ∙ at-halves t (there .before) .holds
+    both-written (start .args .out .now) first (2 * there .distance2 .result) (at-within t there) (at-filled t (c .before .before .before .before)) wrote-first wrote-second (at-halves t (there .before) .holds)
 
 pub +find-spec : {M : Type 1} → statement M
 +find-spec = close μ-find λ t. find-lts.spec (called t)

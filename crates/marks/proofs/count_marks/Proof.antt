@@ -1,8 +1,7 @@
 -- `marks::count_marks` meets its contract. Assumes nothing.
-use mathlib.Core.Path.{_≡_, sym, ap, _∙_}
+use mathlib.Core.Path.{sym, ap, _∙_}
 use borrow.Author.Needs.{needs}
-use Rattle.refusals.specs.Verdict.{answered, paperCheck, accepted}
-use Rattle.series.specs.Acceptance.{judged}
+use Rattle.refusals.specs.Verdict.{answered, paperCheck}
 use Rattle.marks.proofs.count_marks.Statement.{statement}
 use Rattle.marks.proofs.count_marks.Tie as tie
 

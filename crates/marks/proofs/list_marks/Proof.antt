@@ -2,26 +2,21 @@
 use mathlib.Core.Path.{_≡_, refl, sym, ap, _∙_}
 use mathlib.Core.List.{List, _++_}
 use native.Mathlib.Omega.{arith}
-use Prim.Native.Nat.{ℕ, _*_, _/_, _≤_, _<_}
+use Prim.Native.Nat.{ℕ, _*_}
 use borrow.Author.Needs.{needs}
 use borrow.Author.Tests.{lt-ltb, le-ltb}
 use lib.Dec.{ltb}
 use lib.ListN.{length, drop}
 use lib.Seq.{length-take-le}
 use lib.IntN.{ℤ}
-use lib.Signed.{_≤ℤ_}
 use mir.Syntax.{w64}
 use mir.Val.{ofZ, toZ}
 use mathlib.Core.Bool.{true, false}
-use Rattle.refusals.specs.Verdict.{Verdict, answered, refused, refusal, paperCheck, accepted, refuseWhen, _before_}
-use Rattle.whole.specs.Parts.{→≤}
+use Rattle.refusals.specs.Verdict.{Verdict, answered, refused, paperCheck, _before_}
 use Rattle.whole.specs.Distance.{distanceFrom}
 use Rattle.series.specs.Bodies.{numbers}
-use Rattle.series.specs.Series.{InSpan, valueAt, lastSecond}
-use Rattle.series.specs.Acceptance.{Accepted, judged}
-use Rattle.series.specs.Theorems.{accepted-rises}
-use Rattle.marks.specs.Span.{span-ordered, span-few}
-use Rattle.marks.specs.Marks.{marks}
+use Rattle.series.specs.Series.{valueAt, lastSecond}
+use Rattle.series.specs.Acceptance.{Accepted}
 use Rattle.marks.specs.Words.{words, words-length}
 use Rattle.marks.specs.Stretch.{Stretch}
 use Rattle.marks.specs.Listed.{listedMarks}
@@ -33,7 +28,8 @@ use Rattle.marks.proofs.list_marks.Tie as tie
 use Rattle.marks.proofs.list_marks.Reads as reads
 use Rattle.marks.proofs.list_marks.Lts as lts
 use Rattle.marks.proofs.find.Reads as find-reads
-use Rattle.marks.proofs.inner.index_at.Reads as index-at-reads
+use Rattle.marks.proofs.inner.first_reached.Reads as first-reached-reads
+use Rattle.marks.proofs.inner.last_reached.Reads as last-reached-reads
 use Rattle.series.proofs.accept.Reads as accept-reads
 use Rattle.series.proofs.inner.last_second.Reads as last-second-reads
 use Rattle.whole.proofs.inner.distance.Reads as distance-reads
@@ -44,8 +40,10 @@ called = (
   accept-reads.Learnt,
   last-second-reads.Asked,
   last-second-reads.Learnt,
-  index-at-reads.Asked,
-  index-at-reads.Learnt,
+  first-reached-reads.Asked,
+  first-reached-reads.Learnt,
+  last-reached-reads.Asked,
+  last-reached-reads.Learnt,
   distance-reads.Asked,
   distance-reads.Learnt,
   find-reads.Asked,
@@ -57,8 +55,8 @@ called = (
 settled-refused : (answer : Verdict ℕ) (number segment : ℕ) (written out : List ℤ) → answer ≡ refused number segment → (refused number segment ≡ answer) × (out ≡ held answer written out)
 settled-refused answer number segment written out e = rw e (refl, refl)
 
-settled-listed : (answer : Verdict ℕ) (n : ℕ) (written out after : List ℤ) → answer ≡ answered n → after ≡ written ++ drop (length written) out → (answered n ≡ answer) × (after ≡ held answer written out)
-settled-listed answer n written out after e p = rw e (refl, p)
+settled-listed : (answer : Verdict ℕ) (n k : ℕ) (written out : List ℤ) {filled : List ℤ} → answer ≡ answered n → length written ≡ k → filled ≡ written → (answered n ≡ answer) × (filled ++ drop k out ≡ held answer written out)
+settled-listed answer n k written out e size p = rw (e, size, p) (refl, refl)
 
 -- ---- what is known at each place
 
@@ -71,34 +69,29 @@ at-first c = back (c .before .before .before .before .args .start .0) (c .struct
 at-last : (c : lts.After-last-second called reads.Pre reads.Post) → (let start = c .before .before .before .before .before in toZ w64 (ofZ w64 (c .last-second .result)) ≡ lastSecond (start .args .body) (start .args .start .0) (start .args .coefs .now))
 at-last c = back (c .last-second .result) (c .last-second .ok) ∙ c .last-second .ensures
 
-at-ordered : (c : lts.After-struct-told called reads.Pre reads.Post) → (let start = c .before .before .before .before in (start .args .start .0) ≤ℤ lastSecond (start .args .body) (start .args .start .0) (start .args .coefs .now))
-at-ordered c =
-    let start = c .before .before .before .before in
-    span-ordered (start .args .body) (start .args .start .0) (start .args .coefs .now) (at-accepted c)
-
 -- the whole span, with the indices at its ends
-at-span : (c : lts.After-index-at2 called reads.Pre reads.Post) →
+at-span : (c : lts.After-last-reached called reads.Pre reads.Post) →
     (let start = c .before .before .before .before .before .before .before in
     let first = start .args .start .0 in
     let last = lastSecond (start .args .body) first (start .args .coefs .now) in
-    let lowest = c .before .index-at .result in
-    let highest = c .index-at2 .result in
+    let lowest = c .before .first-reached .result in
+    let highest = c .last-reached .result in
     Stretch (valueAt (start .args .body) first (start .args .coefs .now)) (numbers (start .args .body) .mark) first last first last lowest highest (2 * distanceFrom lowest highest))
 at-span c =
-    let there = c .before .before in
-    let start = there .before .before .before .before .before in
-    let body = start .args .body in
-    let first = start .args .start .0 in
-    let coefs = start .args .coefs .now in
-    let good = at-accepted (there .before) in
-    let few = span-few body first coefs good in
-    span (accepted-rises body first coefs good) (at-ordered (there .before)) (omega arith) (c .before .index-at .ensures) (rw (at-last there) at (c .index-at2 .ensures))
+    let told = c .before .before .before in
+    let start = told .before .before .before .before in
+    span (start .args .body) (start .args .start .0) (start .args .coefs .now) (at-accepted told) (c .before .first-reached .ensures) (c .last-reached .ensures)
 
-at-count : (c : lts.After-distance called reads.Pre reads.Post) → c .distance .result ≡ distanceFrom (c .before .before .index-at .result) (c .before .index-at2 .result)
-at-count c = rw (back (c .before .before .index-at .result) (c .before .before .index-at .ok), back (c .before .index-at2 .result) (c .before .index-at2 .ok)) at (c .distance .ensures)
+at-count : (c : lts.After-distance called reads.Pre reads.Post) → c .distance .result ≡ distanceFrom (c .before .before .first-reached .result) (c .before .last-reached .result)
+at-count c = rw (back (c .before .before .first-reached .result) (c .before .before .first-reached .ok), back (c .before .last-reached .result) (c .before .last-reached .ok)) at (c .distance .ensures)
 
 at-length : (c : lts.After-distance called reads.Pre reads.Post) → (let start = c .before .before .before .before .before .before .before .before in length (listedMarks (start .args .body) (start .args .start .0) (start .args .coefs .now)) ≡ c .distance .result)
 at-length c = marks-of (at-span (c .before)) ∙ sym (at-count c)
+
+at-size : (c : lts.After-distance called reads.Pre reads.Post) → (let start = c .before .before .before .before .before .before .before .before in length (words (listedMarks (start .args .body) (start .args .start .0) (start .args .coefs .now))) ≡ 2 * c .distance .result)
+at-size c =
+    let start = c .before .before .before .before .before .before .before .before in
+    words-length (listedMarks (start .args .body) (start .args .start .0) (start .args .coefs .now)) ∙ ap (λ (k : ℕ). 2 * k) (at-length c)
 
 -- ---- the needs
 
@@ -119,17 +112,23 @@ enum-told c = search needs
 last-second-requires : tie.Need-last-second-requires
 last-second-requires c κs = at-accepted c
 
-index-at-requires : tie.Need-index-at-requires
-index-at-requires c κs = (at-accepted (c .before), record { from-start = →≤ (omega arith); to-last = at-ordered (c .before) })
+first-reached-requires : tie.Need-first-reached-requires
+first-reached-requires c κs = at-accepted (c .before)
 
-index-at-requires-2 : tie.Need-index-at-requires-2
-index-at-requires-2 c κs = rw (at-last (c .before)) (at-accepted (c .before .before), record { from-start = at-ordered (c .before .before); to-last = →≤ (omega arith) })
+last-reached-requires : tie.Need-last-reached-requires
+last-reached-requires c κs = at-accepted (c .before .before)
 
 distance-requires : tie.Need-distance-requires
 distance-requires c κs =
     let s = at-span c in
     let few = few-marks s in
-    rw (back (c .before .index-at .result) (c .before .index-at .ok), back (c .index-at2 .result) (c .index-at2 .ok)) (indices-rise s, omega arith)
+    rw (back (c .before .first-reached .result) (c .before .first-reached .ok), back (c .last-reached .result) (c .last-reached .ok)) (indices-rise s, omega arith)
+
+mul-needed : tie.Need-mul-needed
+mul-needed c =
+    let few = few-marks (at-span (c .before)) in
+    let n = at-count c in
+    omega arith
 
 returns-2 : tie.Need-returns-2
 returns-2 c =
@@ -139,11 +138,8 @@ returns-2 c =
     let first = start .args .start .0 in
     let coefs = start .args .coefs .now in
     let out = start .args .out .now in
-    let short : ltb (length out / 2) (length (listedMarks body first coefs)) ≡ true = rw (at-length (c .before)) (lt-ltb _ _ (c .if1 .taken)) in
+    let short : ltb (length out) (length (words (listedMarks body first coefs))) ≡ true = rw (at-size (c .before)) (lt-ltb _ _ (c .if1 .taken)) in
     settled-refused (listedInto body first coefs (length out)) 12 0 (words (listedMarks body first coefs)) out (rw (at-accepted there, short) refl)
-
-mul-find : tie.Need-mul-find
-mul-find c = search needs
 
 slice-relend-prefix-find : tie.Need-slice-relend-prefix-find
 slice-relend-prefix-find c = search needs
@@ -160,7 +156,7 @@ find-requires c κs =
     let there = distance .before .before .before in
     let start = there .before .before .before .before .before in
     let room = c .before .if1 .left in
-    rw (at-first (there .before), at-last there, back (distance .before .before .index-at .result) (distance .before .before .index-at .ok), back (distance .before .index-at2 .result) (distance .before .index-at2 .ok), length-take-le (2 * distance .distance .result) (start .args .out .now) (omega arith), at-count distance)
+    rw (at-first (there .before), at-last there, back (distance .before .before .first-reached .result) (distance .before .before .first-reached .ok), back (distance .before .last-reached .result) (distance .before .last-reached .ok), length-take-le (2 * distance .distance .result) (start .args .out .now) (omega arith), at-count distance)
     (at-accepted (there .before), at-span (distance .before))
 
 same-length : tie.Need-same-length
@@ -176,12 +172,11 @@ returns-3 c =
     let coefs = start .args .coefs .now in
     let out = start .args .out .now in
     let n = at-length distance in
-    let enough : ltb (length out / 2) (length (listedMarks body first coefs)) ≡ false = rw n (le-ltb _ _ (c .before .before .before .if1 .left)) in
+    let size = at-size distance in
+    let enough : ltb (length out) (length (words (listedMarks body first coefs))) ≡ false = rw size (le-ltb _ _ (c .before .before .before .if1 .left)) in
     let answer : listedInto body first coefs (length out) ≡ answered (distance .distance .result) = rw (at-accepted (there .before), enough, n) refl in
     let wrote = rw (at-first (there .before), at-last there) at (c .before .find .ensures) in
-    let size : length (words (listedMarks body first coefs)) ≡ 2 * distance .distance .result = words-length (listedMarks body first coefs) ∙ ap (λ (k : ℕ). 2 * k) n in
-    settled-listed (listedInto body first coefs (length out)) (distance .distance .result) (words (listedMarks body first coefs)) out _ answer
-    (rw size (ap (λ (l : List ℤ). l ++ drop (2 * distance .distance .result) out) wrote))
+    settled-listed (listedInto body first coefs (length out)) (distance .distance .result) (2 * distance .distance .result) (words (listedMarks body first coefs)) out answer size wrote
 
 pub list-marks-spec : {M : Type 1} → statement M
 list-marks-spec =
@@ -192,11 +187,11 @@ list-marks-spec =
     returns
     enum-told
     last-second-requires
-    index-at-requires
-    index-at-requires-2
+    first-reached-requires
+    last-reached-requires
     distance-requires
+    mul-needed
     returns-2
-    mul-find
     slice-relend-prefix-find
     slice-aggregate-find
     find-requires

@@ -1,10 +1,7 @@
 -- `clock::inner::convertible` meets its contract. Assumes nothing.
 use Rattle.clock.specs.Clock.{convertible}
 use Rattle.clock.proofs.Tests.{too-low, too-high, inside}
-use mathlib.Core.Path.{_≡_, refl, sym, ap, _∙_}
-use mathlib.Core.Bool.{true, false}
-use lib.IntN.{ℤ, pos, negsuc}
-use lib.Signed.{_<ℤ_, _≤ℤ_, ltZ, leZ}
+use lib.IntN.{pos, negsuc}
 use borrow.Author.Needs.{needs}
 use mir.Syntax.{w64}
 use mir.Val.{SFits}

@@ -1,14 +1,10 @@
 -- `clock::inner::entry_used` meets its contract. The loop's invariant: `low` holds by then, and nothing from `high` on does. Assumes nothing.
-use Prim.Native.Nat.{_+_, _-_, _/_, _<_, _≤_}
-use lib.ListN.{length}
+use Prim.Native.Nat.{_-_}
 use native.Mathlib.Omega.{arith}
-use mir.Val.{toZ, ofZ}
-use Rattle.clock.specs.Leap.{entries, lawful, holds, entryUsed}
+use mir.Val.{toZ}
+use Rattle.clock.specs.Leap.{holds}
 use Rattle.clock.proofs.Used.{Bracket, bracket, raise, lower, found}
-use mathlib.Core.Path.{_≡_, refl, sym, ap, _∙_}
-use mathlib.Core.Bool.{true, false}
-use lib.IntN.{ℤ, pos, negsuc}
-use lib.Signed.{_<ℤ_, _≤ℤ_, ltZ, leZ}
+use mathlib.Core.Path.{sym, _∙_}
 use borrow.Author.Needs.{needs}
 use mir.Syntax.{w64}
 use mir.Val.{SFits}

@@ -1,12 +1,10 @@
 -- `clock::inner::good_after` meets its contract. Assumes nothing.
-use Prim.Native.Nat.{ℕ, suc, _+_, _*_}
+use Prim.Native.Nat.{suc, _+_, _*_}
 use lib.ListN.{getD}
 use native.Mathlib.Omega.{arith}
-use Rattle.clock.specs.Leap.{nextEntry, goodEntry}
-use mathlib.Core.Path.{_≡_, refl, sym, ap, _∙_}
-use mathlib.Core.Bool.{true, false}
-use lib.IntN.{ℤ, pos, negsuc}
-use lib.Signed.{_<ℤ_, _≤ℤ_, ltZ, leZ}
+use Rattle.clock.specs.Leap.{goodEntry}
+use mathlib.Core.Path.{_≡_}
+use lib.IntN.{pos}
 use borrow.Author.Needs.{needs}
 use mir.Syntax.{w64}
 use mir.Val.{SFits}

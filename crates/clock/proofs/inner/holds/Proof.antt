@@ -1,10 +1,8 @@
 -- `clock::inner::holds` meets its contract. Assumes nothing.
 use lib.Signed.{leZ}
 use Rattle.clock.specs.Leap.{holds}
-use mathlib.Core.Path.{_≡_, refl, sym, ap, _∙_}
-use mathlib.Core.Bool.{true, false}
-use lib.IntN.{ℤ, pos, negsuc}
-use lib.Signed.{_<ℤ_, _≤ℤ_, ltZ, leZ}
+use mathlib.Core.Path.{ap}
+use lib.IntN.{ℤ}
 use borrow.Author.Needs.{needs}
 use mir.Syntax.{w64}
 use mir.Val.{SFits}

@@ -1,15 +1,14 @@
 -- `clock::inner::lawful` meets its contract. The loop's invariant: entries 0 to i are good. Assumes nothing.
-use Prim.Native.Nat.{ℕ, suc, _+_, _*_, _-_, _<_, _≤_}
+use Prim.Native.Nat.{ℕ, suc, _+_, _*_, _-_, _<_}
 use lib.ListN.{length, getD}
 use native.Mathlib.Omega.{arith}
 use borrow.Author.Tests.{not-true, not-false}
-use Rattle.clock.specs.Leap.{entries, firstEntry, goodEntry, lawful}
+use Rattle.clock.specs.Leap.{goodEntry}
 use Rattle.clock.proofs.Search.{below}
 use Rattle.clock.proofs.Tests.{odd, empty, too-long, bad-entry, all-good}
-use mathlib.Core.Path.{_≡_, refl, sym, ap, _∙_}
-use mathlib.Core.Bool.{true, false}
-use lib.IntN.{ℤ, pos, negsuc}
-use lib.Signed.{_<ℤ_, _≤ℤ_, ltZ, leZ}
+use mathlib.Core.Path.{_≡_, sym, ap, _∙_}
+use mathlib.Core.Bool.{true}
+use lib.IntN.{pos}
 use borrow.Author.Needs.{needs}
 use mir.Syntax.{w64}
 use mir.Val.{SFits}

@@ -1,18 +1,13 @@
 -- `clock::inner::milli_in` meets its contract. Assumes nothing.
-use Prim.Native.Nat.{_+_, _*_, _<_}
 use native.Mathlib.Omega.{arith}
 use Rattle.whole.specs.Ranges.{fits, bounds}
 use Rattle.refusals.specs.Verdict.{answered}
-use Rattle.clock.specs.Leap.{entries, offset, holds, entryUsed}
+use Rattle.clock.specs.Leap.{offset, entryUsed}
 use Rattle.clock.specs.Clock.{tai, localMilli, milliIn}
-use Rattle.clock.proofs.Search.{Last}
 use Rattle.clock.proofs.Table.{few, offset-small}
 use Rattle.clock.proofs.Used.{used-says}
 use Rattle.clock.proofs.Sizes.{tai-small}
-use mathlib.Core.Path.{_≡_, refl, sym, ap, _∙_}
-use mathlib.Core.Bool.{true, false}
-use lib.IntN.{ℤ, pos, negsuc}
-use lib.Signed.{_<ℤ_, _≤ℤ_, ltZ, leZ}
+use mathlib.Core.Path.{_≡_, sym, ap, _∙_}
 use borrow.Author.Needs.{needs}
 use mir.Syntax.{w64}
 use mir.Val.{SFits, toZ, ofZ}

@@ -1,11 +1,10 @@
 -- `clock::inner::next_entry` meets its contract. Assumes nothing.
 use lib.IntN.{_-ℤ_}
-use Rattle.clock.specs.Leap.{utcDay, between}
 use Rattle.clock.proofs.Tests.{too-low, too-high, inside, next-no-day, next-no-rise, next-by-offset, not-more, one-less-fits, too-much, one-more}
-use mathlib.Core.Path.{_≡_, refl, sym, ap, _∙_}
+use mathlib.Core.Path.{_≡_}
 use mathlib.Core.Bool.{true, false}
-use lib.IntN.{ℤ, pos, negsuc}
-use lib.Signed.{_<ℤ_, _≤ℤ_, ltZ, leZ}
+use lib.IntN.{pos, negsuc}
+use lib.Signed.{ltZ}
 use borrow.Author.Needs.{needs}
 use mir.Syntax.{w64}
 use mir.Val.{SFits}

@@ -1,10 +1,6 @@
 -- `clock::inner::shown_in` meets its contract. Assumes nothing.
 use Rattle.clock.proofs.Judged.{shown-by-milli}
 use Rattle.clock.proofs.Sizes.{milli-has-date}
-use mathlib.Core.Path.{_≡_, refl, sym, ap, _∙_}
-use mathlib.Core.Bool.{true, false}
-use lib.IntN.{ℤ, pos, negsuc}
-use lib.Signed.{_<ℤ_, _≤ℤ_, ltZ, leZ}
 use borrow.Author.Needs.{needs}
 use mir.Syntax.{w64}
 use mir.Val.{SFits}

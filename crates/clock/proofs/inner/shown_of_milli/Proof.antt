@@ -1,16 +1,13 @@
 -- `clock::inner::shown_of_milli` meets its contract. Assumes nothing.
 use Prim.Native.Nat.{ℕ, _/_, _%_}
-use native.Mathlib.Omega.{arith}
 use Rattle.whole.specs.Parts.{ℤ-rules}
 use Rattle.whole.specs.Floor.{floorMod}
 use Rattle.dates.specs.declared.Day.{Day}
 use Rattle.dates.specs.Answers.{hasDate}
 use Rattle.dates.specs.Calendar.{dateFor}
-use Rattle.clock.specs.Clock.{dayOfMilli, shownOfMilli}
-use mathlib.Core.Path.{_≡_, refl, sym, ap, _∙_}
-use mathlib.Core.Bool.{true, false}
-use lib.IntN.{ℤ, pos, negsuc, natAbs}
-use lib.Signed.{_<ℤ_, _≤ℤ_, ltZ, leZ}
+use Rattle.clock.specs.Clock.{shownOfMilli}
+use mathlib.Core.Path.{_≡_, ap, _∙_}
+use lib.IntN.{pos, natAbs}
 use borrow.Author.Needs.{needs}
 use mir.Syntax.{w64}
 use mir.Val.{SFits}

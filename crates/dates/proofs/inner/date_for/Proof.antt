@@ -1,16 +1,9 @@
 -- `dates::inner::date_for` meets its contract. Assumes nothing.
-use Prim.Native.Nat.{ℕ, _<_}
-use lib.IntN.{natAbs, _-ℤ_}
 use native.Mathlib.Omega.{arith}
-use Rattle.dates.specs.declared.Date.{Date}
-use Rattle.dates.specs.Calendar.{newYear, yearLength, yearOf, dateInYear, dateFor}
+use Rattle.dates.specs.Calendar.{yearOf, dateFor}
 use Rattle.dates.proofs.Years.{year-found}
 use Rattle.dates.proofs.Days.{daysOver, day-within}
 use Rattle.dates.proofs.Sizes.{range-small, year-small, year-sum}
-use mathlib.Core.Path.{_≡_, refl, sym, ap, _∙_}
-use mathlib.Core.Bool.{true, false}
-use lib.IntN.{ℤ, pos, negsuc}
-use lib.Signed.{_<ℤ_, _≤ℤ_, ltZ}
 use borrow.Author.Needs.{needs}
 use mir.Syntax.{w64}
 use mir.Val.{SFits}

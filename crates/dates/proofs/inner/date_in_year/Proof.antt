@@ -1,17 +1,15 @@
 -- `dates::inner::date_in_year` meets its contract. Assumes nothing.
-use Prim.Native.Nat.{ℕ, suc, _+_, _-_, _<_, _≤_}
+use Prim.Native.Nat.{ℕ, suc, _+_, _-_}
 use mathlib.Core.Path.{ap₂}
 use mathlib.Core.List.{List}
-use lib.ListN.{length, take}
+use lib.ListN.{take}
 use native.Mathlib.Omega.{arith}
-use Rattle.dates.specs.Calendar.{leapYear, monthLengths, lengthsIn, sum, yearLength, monthsOver, dateInYear}
-use Rattle.dates.proofs.Months.{InMonth, month-found}
+use Rattle.dates.specs.Calendar.{leapYear, monthLengths, lengthsIn, sum, monthsOver, dateInYear}
+use Rattle.dates.proofs.Months.{month-found}
 use Rattle.dates.proofs.Days.{twelve}
 use Rattle.dates.proofs.Sizes.{year-sum}
-use mathlib.Core.Path.{_≡_, refl, sym, ap, _∙_}
-use mathlib.Core.Bool.{true, false}
-use lib.IntN.{ℤ, pos, negsuc}
-use lib.Signed.{_<ℤ_, _≤ℤ_, ltZ}
+use mathlib.Core.Path.{_≡_, ap, _∙_}
+use lib.IntN.{pos}
 use borrow.Author.Needs.{needs}
 use mir.Syntax.{w64}
 use mir.Val.{SFits}

@@ -1,13 +1,10 @@
 -- `dates::inner::day_number` meets its contract. Assumes nothing.
 use Rattle.whole.specs.Ranges.{Within, fits, bounds}
 use Rattle.whole.specs.Floor.{bound-floor}
-use Rattle.dates.specs.Calendar.{leapYearsTo, newYear, daysBefore, valid, numberOf, dayNumber}
+use Rattle.dates.specs.Calendar.{leapYearsTo, newYear, numberOf}
 use Rattle.dates.proofs.Days.{valid-says}
 use Rattle.dates.proofs.Sizes.{before-small, day-small}
-use mathlib.Core.Path.{_≡_, refl, sym, ap, _∙_}
-use mathlib.Core.Bool.{true, false}
-use lib.IntN.{ℤ, pos, negsuc}
-use lib.Signed.{_<ℤ_, _≤ℤ_, ltZ}
+use mathlib.Core.Path.{_∙_}
 use borrow.Author.Needs.{needs}
 use mir.Syntax.{w64}
 use mir.Val.{SFits}

@@ -1,18 +1,16 @@
 -- `dates::inner::days_before` meets its contract. Assumes nothing.
-use Prim.Native.Nat.{ℕ, _+_, _-_, _<_, _≤_}
+use Prim.Native.Nat.{ℕ, _-_}
 use mathlib.Core.List.{List}
 use lib.IntN.{natAbs}
-use lib.ListN.{length, take}
+use lib.ListN.{take}
 use native.Mathlib.Omega.{arith}
 use Rattle.whole.specs.Parts.{ℤ-rules}
-use Rattle.dates.specs.Calendar.{leapYear, monthLengths, lengthsIn, sum, yearLength, daysBefore}
+use Rattle.dates.specs.Calendar.{leapYear, monthLengths, lengthsIn, sum, daysBefore}
 use Rattle.dates.proofs.Months.{take-below}
 use Rattle.dates.proofs.Days.{twelve}
 use Rattle.dates.proofs.Sizes.{year-sum}
-use mathlib.Core.Path.{_≡_, refl, sym, ap, _∙_}
-use mathlib.Core.Bool.{true, false}
-use lib.IntN.{ℤ, pos, negsuc}
-use lib.Signed.{_<ℤ_, _≤ℤ_, ltZ}
+use mathlib.Core.Path.{_≡_, ap, _∙_}
+use lib.IntN.{pos}
 use borrow.Author.Needs.{needs}
 use mir.Syntax.{w64}
 use mir.Val.{SFits}

@@ -1,10 +1,10 @@
 -- `dates::inner::days_of` meets its contract. The loop's invariant: the days of the months passed. Assumes nothing.
-use Prim.Native.Nat.{ℕ, suc, _+_, _-_, _≤_, _<_}
-use mathlib.Core.Path.{_≡_, refl, sym, ap, _∙_}
+use Prim.Native.Nat.{ℕ, suc, _+_, _-_, _≤_}
+use mathlib.Core.Path.{_≡_, refl, ap, _∙_}
 use native.Mathlib.Omega.{arith}
 use native.Mathlib.Numerals.{add-one}
 use borrow.Author.Needs.{needs}
-use lib.ListN.{length, getD, take}
+use lib.ListN.{take}
 use Rattle.dates.specs.Calendar.{sum}
 use Rattle.dates.proofs.Months.{take-next, take-below}
 use Rattle.dates.proofs.inner.days_of.Statement.{statement}

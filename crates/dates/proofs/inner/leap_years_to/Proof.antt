@@ -1,13 +1,10 @@
 -- `dates::inner::leap_years_to` meets its contract. Assumes nothing.
-use mathlib.Core.Path.{_≡_, refl, sym, ap, _∙_}
-use mathlib.Core.Bool.{true, false}
-use lib.IntN.{ℤ, pos, negsuc}
-use lib.Signed.{_<ℤ_, _≤ℤ_, ltZ}
+use mathlib.Core.Path.{_∙_}
 use borrow.Author.Needs.{needs}
 use mir.Syntax.{w64}
 use mir.Val.{SFits}
 use mir.Facts.{toZ-ofZ}
-use Rattle.whole.specs.Ranges.{fits, bounds, bound-eq, bound-back}
+use Rattle.whole.specs.Ranges.{fits, bounds}
 use Rattle.whole.specs.Floor.{bound-floor}
 use Rattle.dates.specs.Calendar.{leapYearsTo}
 use Rattle.dates.proofs.inner.leap_years_to.Statement.{statement}

@@ -1,15 +1,11 @@
 -- `dates::inner::month_length` meets its contract. Assumes nothing.
-use Prim.Native.Nat.{ℕ, _-_, _<_, _≤_}
+use Prim.Native.Nat.{_-_}
 use lib.IntN.{natAbs}
-use lib.ListN.{getD}
 use native.Mathlib.Omega.{arith}
 use Rattle.whole.specs.Parts.{ℤ-rules}
-use Rattle.dates.specs.Calendar.{leapYear, monthLengths, lengthsIn, monthLength}
+use Rattle.dates.specs.Calendar.{monthLength}
 use Rattle.dates.proofs.Sizes.{month-small}
-use mathlib.Core.Path.{_≡_, refl, sym, ap, _∙_}
-use mathlib.Core.Bool.{true, false}
-use lib.IntN.{ℤ, pos, negsuc}
-use lib.Signed.{_<ℤ_, _≤ℤ_, ltZ}
+use mathlib.Core.Path.{_≡_, ap, _∙_}
 use borrow.Author.Needs.{needs}
 use mir.Syntax.{w64}
 use mir.Val.{SFits}

@@ -1,5 +1,4 @@
 -- `dates::inner::month_lengths` meets its contract. Assumes nothing.
-use mathlib.Core.Path.{_≡_, refl}
 use Rattle.dates.specs.Calendar.{monthLengths}
 use Rattle.dates.proofs.inner.month_lengths.Statement.{statement}
 use Rattle.dates.proofs.inner.month_lengths.Tie as tie

@@ -1,11 +1,10 @@
 -- `dates::inner::valid` meets its contract. Assumes nothing.
-use Rattle.dates.specs.Calendar.{monthLength}
-use Rattle.dates.proofs.Tests.{at-most, no-month-below, no-month-above, no-day-below, no-day-above, is-date}
+use Rattle.dates.proofs.Tests.{no-month-below, no-month-above, no-day-below, no-day-above, is-date}
 use Rattle.whole.specs.Solver.{lt-no}
-use mathlib.Core.Path.{_≡_, refl, sym, ap, _∙_}
-use mathlib.Core.Bool.{true, false}
-use lib.IntN.{ℤ, pos, negsuc}
-use lib.Signed.{_<ℤ_, _≤ℤ_, ltZ}
+use mathlib.Core.Path.{_≡_}
+use mathlib.Core.Bool.{false}
+use lib.IntN.{pos}
+use lib.Signed.{ltZ}
 use borrow.Author.Needs.{needs}
 use mir.Syntax.{w64}
 use mir.Val.{SFits}

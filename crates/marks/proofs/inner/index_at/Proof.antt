@@ -1,9 +1,9 @@
 -- `marks::inner::index_at` meets its contract. Assumes nothing.
-use mathlib.Core.Path.{_≡_, sym, ap, _∙_}
+use mathlib.Core.Path.{_∙_}
 use native.Mathlib.Omega.{arith}
 use borrow.Author.Needs.{needs}
 use Rattle.whole.specs.Parts.{→<}
-use Rattle.series.specs.Bodies.{numbers, lawful}
+use Rattle.series.specs.Bodies.{lawful}
 use Rattle.marks.specs.Marks.{indexAt}
 use Rattle.marks.proofs.Bits.{back}
 use Rattle.marks.proofs.inner.index_at.Statement.{statement}

@@ -1,14 +1,13 @@
 -- `marks::inner::locate` meets its contract. The invariant: the mark lies between `lo` and `hi` (`Bracket`); the measure is how far they lie apart. In the needs,
 -- `start` is the function's entry, `told` the place where the start second is read, and `loop` the loop's head. Assumes nothing.
-use mathlib.Core.Path.{_≡_, refl, sym, ap, _∙_}
+use mathlib.Core.Path.{_≡_, refl, _∙_}
 use mathlib.Core.Logic.{⊎-elim}
-use Prim.Native.Nat.{ℕ, _≤_, _<_}
+use Prim.Native.Nat.{_<_}
 use native.Mathlib.Omega.{arith}
 use borrow.Author.Needs.{needs}
 use lib.IntN.{ℤ, pos, _+ℤ_, _*ℤ_}
-use lib.Signed.{_≤ℤ_, _<ℤ_}
 use mir.Syntax.{w64}
-use mir.Val.{SFits, ofZ, toZ}
+use mir.Val.{ofZ, toZ}
 use mir.Facts.{toZ-ofZ}
 use Rattle.whole.specs.Parts.{→≤}
 use Rattle.whole.specs.Laws.{<→≤, ≤-trans}
@@ -16,7 +15,7 @@ use Rattle.whole.specs.Ranges.{fit-hyp}
 use Rattle.whole.specs.Solver.{lt-yes, lt-no}
 use Rattle.whole.specs.Distance.{distanceFrom, between-fits}
 use Rattle.series.specs.Bodies.{numbers}
-use Rattle.series.specs.Series.{InSpan, valueAt, lastSecond}
+use Rattle.series.specs.Series.{valueAt, lastSecond}
 use Rattle.series.specs.Theorems.{accepted-rises}
 use Rattle.marks.specs.Indices.{reached, ahead}
 use Rattle.marks.specs.Span.{span-ordered, span-few, value-within}

@@ -1,22 +1,22 @@
 -- The laws of a stretch's list that the finder uses (document 01, "Marks"): two stretches that share a second, a stretch whose ends lie between the same two
 -- marks, two neighbouring seconds with a mark between them, and how many marks a stretch lists. Assumes nothing.
-use mathlib.Core.Path.{_≡_, refl, sym, ap, _∙_, subst}
+use mathlib.Core.Path.{_≡_, refl, sym, _∙_}
 use mathlib.Core.Bool.{Bool, true, false, cond}
-use mathlib.Core.Logic.{_⊎_, ⊎-elim}
-use mathlib.Core.List.{List, [], _∷_, _++_, append-assoc, append-nil}
-use Prim.Native.Nat.{ℕ, zero, suc, _+_, _*_, _≤_, _<_}
+use mathlib.Core.Logic.{⊎-elim}
+use mathlib.Core.List.{[], _∷_, _++_, append-assoc, append-nil}
+use Prim.Native.Nat.{ℕ, zero, suc, _+_, _≤_}
 use native.Mathlib.Omega.{arith}
 use native.Mathlib.Nat.{zero-add, suc-add}
 use lib.ListN.{length, length-append}
-use lib.IntN.{ℤ, pos, natAbs, _+ℤ_, _-ℤ_, _*ℤ_}
+use lib.IntN.{ℤ, pos, _+ℤ_, _-ℤ_}
 use lib.Signed.{ltZ, _≤ℤ_, _<ℤ_}
-use Rattle.whole.specs.Parts.{posPart, negPart, ℤ-rules, ≤→, →≤, <→, →<, ≡→, →≡, parts-add}
+use Rattle.whole.specs.Parts.{ℤ-rules, →≡, parts-add}
 use Rattle.whole.specs.Laws.{≤-trans, ≤-of-≡, ≤-total}
 use Rattle.whole.specs.Distance.{distanceFrom}
-use Rattle.whole.specs.Solver.{⇑, ⇓, ring, lt-yes, yes-lt, lt-no, no-lt}
+use Rattle.whole.specs.Solver.{yes-lt, no-lt}
 use Rattle.series.specs.Rising.{Rising}
 use Rattle.marks.specs.Marks.{Mark, indexAt, markAt, marksAfter, marks}
-use Rattle.marks.specs.Indices.{clash, next, back-one, lies-after, distance-of, distances-add, index-rises, index-rises-by-one, index-mono}
+use Rattle.marks.specs.Indices.{next, back-one, lies-after, distance-of, distances-add, index-rises, index-rises-by-one, index-mono}
 
 -- ---- two stretches that share a second
 join-after : (v : ℤ → ℤ) (mark : ℕ) (n m : ℕ) (a b : ℤ) → b ≡ a +ℤ pos n → marksAfter v mark a n ++ marksAfter v mark b m ≡ marksAfter v mark a (n + m)

@@ -1,0 +1,93 @@
+-- Document 01's starred example of the clock, and refusals beside it, each a computed fact, and all of them checked at once. Assumes nothing.
+use Prim.Native.Nat.{ℕ, zero, suc, _^_, _-_}
+use mathlib.Core.Bool.{Bool, true, false, _&&_}
+use mathlib.Core.List.{List, [], _∷_}
+use lib.Dec.{T, eqb}
+use lib.IntN.{ℤ, pos, negsuc}
+use lib.Signed.{leZ}
+use Rattle.refusals.specs.Verdict.{Verdict, answered, refused}
+use Rattle.whole.specs.Floor.{floorDiv, floorMod}
+use Rattle.dates.specs.declared.Day.{Day}
+use Rattle.dates.specs.Calendar.{leapYear, leapYearsTo, newYear, monthLengths, guess, yearOf, monthsOver, dateInYear, dateFor}
+use Rattle.clock.specs.declared.Second.{Second}
+use Rattle.clock.specs.declared.Milli.{Milli}
+use Rattle.clock.specs.declared.ShownTime.{ShownTime}
+use Rattle.clock.specs.Leap.{firstEntry, nextEntry, goodEntry, every, lawful, holdsFrom, holds, last, entryUsed}
+use Rattle.clock.specs.Clock.{convertible, tai, localMilli, milliIn, dayOfMilli, shownOfMilli, dayIn, shownIn}
+use Rattle.clock.specs.Answers.{leapJudged, judged, milliOf, dayOfSecond, shownOf}
+
+abbrev same : ℤ → ℤ → Bool
+same a b = leZ a b && leZ b a
+
+abbrev second : ℤ → Second
+second s = record { 0 = s }
+
+abbrev isMilli : Verdict Milli → ℤ → Bool
+isMilli (answered m) z = same (m .0) z
+isMilli (refused number segment) z = false
+
+abbrev isDay : Verdict Day → ℤ → Bool
+isDay (answered d) z = same (d .0) z
+isDay (refused number segment) z = false
+
+abbrev isShown : Verdict ShownTime → ℕ → ℕ → ℕ → ℕ → ℕ → ℕ → ℕ → Bool
+isShown (answered t) y m d hour minute s milli =
+    same (t .date .year) (pos y)
+    && (same (t .date .month) (pos m)
+    && (same (t .date .day) (pos d)
+    && (same (t .hour) (pos hour) && (same (t .minute) (pos minute) && (same (t .second) (pos s) && same (t .millisecond) (pos milli))))))
+isShown (refused number segment) y m d hour minute s milli = false
+
+abbrev isRefused : {A : Type 0} → Verdict A → ℕ → Bool
+isRefused (answered a) k = false
+isRefused (refused number segment) k = eqb number k && eqb segment 0
+
+abbrev isAccepted : {A : Type 0} → Verdict A → Bool
+isAccepted (answered a) = true
+isAccepted (refused number segment) = false
+
+-- n entries, one a day from day d on
+abbrev daily : ℕ → ℕ → List ℤ
+daily zero d = []
+daily (suc n) d = pos d ∷ pos d ∷ daily n (suc d)
+
+abbrev table : List ℤ
+table = negsuc 364 ∷ pos 32 ∷ []
+
+-- and a second inserted before 2006-01-01
+abbrev longer : List ℤ
+longer = negsuc 364 ∷ pos 32 ∷ pos 2192 ∷ pos 33 ∷ []
+
+abbrev all : List Bool → Bool
+all [] = true
+all (b ∷ bs) = b && all bs
+
+unfoldable pub examples : List Bool
+unfolding leapYear leapYearsTo newYear monthLengths guess yearOf monthsOver dateInYear dateFor floorDiv floorMod firstEntry nextEntry goodEntry every lawful holdsFrom holds last entryUsed convertible tai localMilli milliIn dayOfMilli shownOfMilli dayIn shownIn leapJudged judged milliOf dayOfSecond shownOf
+examples =
+    isDay (dayOfSecond table (second (negsuc 836106))) (negsuc 9)
+    ∷ isShown (shownOf table (second (negsuc 836106))) 1999 12 22 15 43 48 816
+    ∷ isMilli (milliOf table (second (pos 0))) (pos 28735816)
+    ∷ isShown (shownOf table (second (pos 0))) 2000 1 1 7 58 55 816
+    -- the instants before, inside and after the inserted second: inside it is shown as the second after it
+    ∷ isShown (shownOf longer (second (pos 189388864))) 2006 1 1 7 59 59 816
+    ∷ isShown (shownOf longer (second (pos 189388865))) 2006 1 1 8 0 0 816
+    ∷ isShown (shownOf longer (second (pos 189388866))) 2006 1 1 8 0 0 816
+    ∷ isRefused (dayOfSecond table (second (pos 16000000001))) 6
+    ∷ isRefused (dayOfSecond table (second (negsuc 10000000000))) 6
+    ∷ isRefused (dayOfSecond table (second (negsuc 32000000))) 7
+    ∷ isAccepted (leapJudged (daily 64 0))
+    ∷ isRefused (leapJudged (daily 65 0)) 1
+    ∷ isRefused (leapJudged []) 1
+    ∷ isRefused (leapJudged (pos 0 ∷ [])) 1
+    ∷ isRefused (leapJudged (pos 0 ∷ pos 32 ∷ pos 1 ∷ [])) 1
+    ∷ isRefused (leapJudged (pos 0 ∷ pos 32 ∷ pos 0 ∷ pos 33 ∷ [])) 1
+    ∷ isRefused (leapJudged (pos 0 ∷ pos 32 ∷ pos 1 ∷ pos 34 ∷ [])) 1
+    ∷ isRefused (leapJudged (negsuc (2 ^ 63 - 1) ∷ pos 32 ∷ [])) 1
+    ∷ isRefused (leapJudged (pos 0 ∷ negsuc (2 ^ 63 - 1) ∷ [])) 1
+    ∷ isRefused (leapJudged (pos 0 ∷ pos (2 ^ 63 - 1) ∷ [])) 1
+    ∷ []
+
+pub examples-hold : T (all examples)
+unfolding examples
+examples-hold = tt

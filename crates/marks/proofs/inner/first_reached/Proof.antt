@@ -1,0 +1,17 @@
+-- `marks::inner::first_reached` meets its contract. Assumes nothing.
+use native.Mathlib.Omega.{arith}
+use mathlib.Core.Path.{_∙_}
+use Rattle.whole.specs.Parts.{→≤}
+use Rattle.marks.specs.Span.{span-ordered}
+use Rattle.marks.proofs.Bits.{back}
+use Rattle.marks.proofs.inner.first_reached.Statement.{statement}
+use Rattle.marks.proofs.inner.first_reached.Tie as tie
+
+index-at-requires : tie.Need-index-at-requires
+index-at-requires c κs = (c .pre, record { from-start = →≤ (omega arith); to-last = span-ordered (c .args .body) (c .args .start .0) (c .args .coefs .now) (c .pre) })
+
+returns : tie.Need-returns
+returns c = back (c .index-at .result) (c .index-at .ok) ∙ c .index-at .ensures
+
+pub first-reached-spec : {M : Type 1} → statement M
+first-reached-spec = tie.close (tie.spec index-at-requires returns)
