@@ -53,12 +53,12 @@ all (v ∷ vs) = v then (λ a. all vs then (λ as′. answered (a ∷ as′)))
 abbrev pub marksOf : Input → List (Verdict (List ℕ))
 marksOf i = map (lineOf Sun (i .leap)) (listedMarks Sun (i .sunStart) (i .sun)) ++ map (lineOf Moon (i .leap)) (listedMarks Moon (i .moonStart) (i .moon))
 
--- everything but 7
-abbrev pub judgedInput : Input → Verdict (Unit {0})
-judgedInput i = leapJudged (i .leap) before judged Sun (i .sunStart) (i .sun) before judged Moon (i .moonStart) (i .moon)
-
 unfoldable pub linesOf : Input → Verdict (List (List ℕ))
-linesOf i = judgedInput i before all (marksOf i)
+linesOf i =
+    leapJudged (i .leap)
+    before judged Sun (i .sunStart) (i .sun)
+    before judged Moon (i .moonStart) (i .moon)
+    before all (marksOf i)
 
 unfoldable pub linesOfWords : List ℤ → Verdict (List (List ℕ))
 linesOfWords ws = places ws then (λ p. linesOf (inputAt ws p))

@@ -29,7 +29,7 @@ use Rattle.series.specs.Theorems.{accepted-rises}
 use Rattle.marks.specs.Marks.{Mark, indexAt}
 use Rattle.marks.specs.Crossings.{Crossing, marked}
 use Rattle.marks.specs.Indices.{index-mono}
-use Rattle.marks.specs.Stretches.{length-is}
+use Rattle.marks.specs.StretchLaws.{length-is}
 use Rattle.marks.specs.Located.{located, nth-listed, seconds-rise}
 use Rattle.marks.specs.Listed.{listedMarks, firstReached, lastReached, secondOfMark}
 use Rattle.marks.specs.Span.{span-ordered, value-within}

@@ -4,6 +4,7 @@ ghost use lib.ListN.{length};
 
 mod layout;
 mod lines;
+mod parts;
 
 // A part of the listing: how many whole lines it has, and how many bytes.
 pub struct Part {
