@@ -66,3 +66,32 @@ fn line_at(
     }
     lines::line_of(Body::Moon, leap, moonstart, moon, i - suns)
 }
+
+// The lines from `from` on that fit the room.
+pub fn put_lines(leap: &[i64], sunstart: Second, sun: &[i64], moonstart: Second, moon: &[i64], from: usize, room: &mut [u8]) -> Part
+    requires { ⌜ Ready (inputOf (now leap) (sunstart .0) (now sun) (moonstart .0) (now moon)) ⌝ }
+    ensures { λ r. ⌜ r ≡ partAnswer (texts (inputOf (now (leap .entry)) (sunstart .0) (now (sun .entry)) (moonstart .0) (now (moon .entry)))) from (length (now (room .entry))) ⌝ }
+    ensures { λ r. ⌜ now (room .exit) ≡ partHeld (texts (inputOf (now (leap .entry)) (sunstart .0) (now (sun .entry)) (moonstart .0) (now (moon .entry)))) from (now (room .entry)) ⌝ }
+{
+    let suns = marks::inner::count(Body::Sun, sunstart, sun);
+    let moons = marks::inner::count(Body::Moon, moonstart, moon);
+    let total = suns + moons;
+    let mut i = from;
+    let mut at = 0;
+    while i < total {
+        let line = line_at(leap, sunstart, sun, moonstart, moon, suns, i);
+        if room.len() - at < text::inner::line_length(line.index) {
+            return Part {
+                lines: i - from,
+                bytes: at,
+            };
+        }
+        let moment = line.moment;
+        at = text::inner::put_line(room, at, line.letter, line.index, moment);
+        i += 1;
+    }
+    Part {
+        lines: i - from,
+        bytes: at,
+    }
+}
