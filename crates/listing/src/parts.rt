@@ -7,7 +7,9 @@ use refusals::Check;
 use refusals::Refusal;
 use series::Body;
 ghost use mathlib.Core.Path.{_≡_};
-ghost use mathlib.Core.List.{[]};
+ghost use mathlib.Core.List.{[], _∷_};
+ghost use Rattle.text.specs.Text.{refusalLine};
+ghost use Rattle.listing.specs.Listing.{linesOf, printed};
 ghost use Prim.Native.Nat.{_<_};
 ghost use lib.ListN.{length, getD};
 ghost use Rattle.series.specs.declared.Body.the-variants.{Sun, Moon};
@@ -94,4 +96,48 @@ pub fn put_lines(leap: &[i64], sunstart: Second, sun: &[i64], moonstart: Second,
         lines: i - from,
         bytes: at,
     }
+}
+
+// A part of a listing that is one line.
+fn put_only(line: &[u8], from: usize, room: &mut [u8]) -> Part
+    ensures { λ r. ⌜ r ≡ partAnswer (now (line .entry) ∷ []) from (length (now (room .entry))) ⌝ }
+    ensures { λ r. ⌜ now (room .exit) ≡ partHeld (now (line .entry) ∷ []) from (now (room .entry)) ⌝ }
+{
+    if from > 0 {
+        return Part { lines: 0, bytes: 0 };
+    }
+    if room.len() < line.len() {
+        return Part { lines: 0, bytes: 0 };
+    }
+    text::inner::put(room, 0, line);
+    Part {
+        lines: 1,
+        bytes: line.len(),
+    }
+}
+
+// A part of what is printed for a refusal.
+pub fn put_refusal(number: u8, from: usize, room: &mut [u8]) -> Part
+    ensures { λ r. ⌜ r ≡ partAnswer (refusalLine number ∷ []) from (length (now (room .entry))) ⌝ }
+    ensures { λ r. ⌜ now (room .exit) ≡ partHeld (refusalLine number ∷ []) from (now (room .entry)) ⌝ }
+{
+    let n = number as u64;
+    if n < 10 {
+        let line = text::inner::short_refusal(n);
+        return put_only(&line, from, room);
+    }
+    let line = text::inner::long_refusal(n);
+    put_only(&line, from, room)
+}
+
+// A part of what is printed for an input.
+pub fn put_input(leap: &[i64], sunstart: Second, sun: &[i64], moonstart: Second, moon: &[i64], from: usize, room: &mut [u8]) -> Part
+    ensures { λ r. ⌜ r ≡ partAnswer (printed (linesOf (inputOf (now (leap .entry)) (sunstart .0) (now (sun .entry)) (moonstart .0) (now (moon .entry))))) from (length (now (room .entry))) ⌝ }
+    ensures { λ r. ⌜ now (room .exit) ≡ partHeld (printed (linesOf (inputOf (now (leap .entry)) (sunstart .0) (now (sun .entry)) (moonstart .0) (now (moon .entry))))) from (now (room .entry)) ⌝ }
+{
+    let check = judge(leap, sunstart, sun, moonstart, moon);
+    if let Check::Refused(r) = check {
+        return put_refusal(r.number, from, room);
+    }
+    put_lines(leap, sunstart, sun, moonstart, moon, from, room)
 }

@@ -103,3 +103,18 @@ pub fn put_line(room: &mut [u8], at: usize, letter: u8, index: u64, m: Moment) -
     let head = long_head(letter, index);
     put_both(room, at, &head, &tail)
 }
+
+// The line of a refusal: four bytes, or five.
+pub fn short_refusal(number: u64) -> [u8; 4]
+    requires { ⌜ number < 10 ⌝ }
+    ensures { λ r. ⌜ r ≡ text.refusalLine number ⌝ }
+{
+    [b'R', b' ', digit(number, 1), b'\n']
+}
+
+pub fn long_refusal(number: u64) -> [u8; 5]
+    requires { ⌜ 10 ≤ number ⌝ }
+    ensures { λ r. ⌜ r ≡ text.refusalLine number ⌝ }
+{
+    [b'R', b' ', digit(number, 10), digit(number, 1), b'\n']
+}

@@ -12,7 +12,7 @@ use lib.IntN.{ℤ}
 use mir.Syntax.{w64}
 use mir.Val.{ofZ, toZ}
 use mathlib.Core.Bool.{true, false}
-use Rattle.refusals.specs.Verdict.{Verdict, answered, refused, paperCheck, _before_}
+use Rattle.refusals.specs.Verdict.{Verdict, answered, refused, paperCheck, accepted-first, test-refuses, test-passes}
 use Rattle.whole.specs.Distance.{distanceFrom}
 use Rattle.series.specs.Bodies.{numbers}
 use Rattle.series.specs.Series.{valueAt, lastSecond}
@@ -139,7 +139,7 @@ returns-2 c =
     let coefs = start .args .coefs .now in
     let out = start .args .out .now in
     let short : ltb (length out) (length (words (listedMarks body first coefs))) ≡ true = rw (at-size (c .before)) (lt-ltb _ _ (c .if1 .taken)) in
-    settled-refused (listedInto body first coefs (length out)) 12 0 (words (listedMarks body first coefs)) out (rw (at-accepted there, short) refl)
+    settled-refused (listedInto body first coefs (length out)) 12 0 (words (listedMarks body first coefs)) out (sym (test-refuses 12 _ short ∙ accepted-first _ (there .before .before .before .accept .ensures) (there .before .enum-told .given .1)))
 
 slice-relend-prefix-find : tie.Need-slice-relend-prefix-find
 slice-relend-prefix-find c = search needs
@@ -174,7 +174,7 @@ returns-3 c =
     let n = at-length distance in
     let size = at-size distance in
     let enough : ltb (length out) (length (words (listedMarks body first coefs))) ≡ false = rw size (le-ltb _ _ (c .before .before .before .if1 .left)) in
-    let answer : listedInto body first coefs (length out) ≡ answered (distance .distance .result) = rw (at-accepted (there .before), enough, n) refl in
+    let answer : listedInto body first coefs (length out) ≡ answered (distance .distance .result) = sym (ap answered (sym n) ∙ test-passes 12 _ enough ∙ accepted-first _ (there .before .before .before .before .accept .ensures) (there .before .before .enum-told .given .1)) in
     let wrote = rw (at-first (there .before), at-last there) at (c .before .find .ensures) in
     settled-listed (listedInto body first coefs (length out)) (distance .distance .result) (2 * distance .distance .result) (words (listedMarks body first coefs)) out answer size wrote
 
