@@ -1,5 +1,7 @@
 // A part of the listing of an input: its judgement, and the lines from one on that fit the room.
 use crate::Part;
+use crate::layout;
+use crate::layout::PlacesAnswer;
 use crate::lines;
 use crate::lines::Line;
 use clock::Second;
@@ -9,11 +11,12 @@ use series::Body;
 ghost use mathlib.Core.Path.{_≡_};
 ghost use mathlib.Core.List.{[], _∷_};
 ghost use Rattle.text.specs.Text.{refusalLine};
-ghost use Rattle.listing.specs.Listing.{linesOf, printed};
-ghost use Prim.Native.Nat.{_<_};
+ghost use Rattle.listing.specs.Listing.{linesOf, linesOfWords, printed};
+ghost use Prim.Native.Nat.{_+_, _<_, _≤_};
 ghost use lib.ListN.{length, getD};
 ghost use Rattle.series.specs.declared.Body.the-variants.{Sun, Moon};
 ghost use Rattle.marks.specs.Listed.{listedMarks};
+ghost use Rattle.listing.specs.Layout.{inputAt};
 ghost use Rattle.listing.specs.Lines.{lineText};
 ghost use Rattle.listing.specs.Ready.{inputOf, Judged, Ready, texts, partAnswer, partHeld};
 
@@ -140,4 +143,30 @@ pub fn put_input(leap: &[i64], sunstart: Second, sun: &[i64], moonstart: Second,
         return put_refusal(r.number, from, room);
     }
     put_lines(leap, sunstart, sun, moonstart, moon, from, room)
+}
+
+// A part of what is printed for words whose sections stand at these places.
+fn put_sections(words: &[i64], sun: usize, moon: usize, from: usize, room: &mut [u8]) -> Part
+    requires { ⌜ (1 ≤ sun) × ((sun + 2 ≤ moon) × (moon + 2 ≤ length (now words))) ⌝ }
+    requires { ⌜ length (now words) ≤ 8192 ⌝ }
+    ensures { λ r. ⌜ r ≡ partAnswer (printed (linesOf (inputAt (now (words .entry)) (record { sun = sun; moon = moon })))) from (length (now (room .entry))) ⌝ }
+    ensures { λ r. ⌜ now (room .exit) ≡ partHeld (printed (linesOf (inputAt (now (words .entry)) (record { sun = sun; moon = moon })))) from (now (room .entry)) ⌝ }
+{
+    let first = sun + 2;
+    let behind = moon + 2;
+    let sunstart = Second(words[sun + 1]);
+    let moonstart = Second(words[moon + 1]);
+    put_input(&words[1..sun], sunstart, &words[first..moon], moonstart, &words[behind..], from, room)
+}
+
+// A part of what is printed for the input's words.
+pub fn put_words(words: &[i64], from: usize, room: &mut [u8]) -> Part
+    requires { ⌜ length (now words) ≤ 8192 ⌝ }
+    ensures { λ r. ⌜ r ≡ partAnswer (printed (linesOfWords (now (words .entry)))) from (length (now (room .entry))) ⌝ }
+    ensures { λ r. ⌜ now (room .exit) ≡ partHeld (printed (linesOfWords (now (words .entry)))) from (now (room .entry)) ⌝ }
+{
+    match layout::find_places(words) {
+        PlacesAnswer::Refused(r) => put_refusal(r.number, from, room),
+        PlacesAnswer::Found(p) => put_sections(words, p.sun, p.moon, from, room),
+    }
 }

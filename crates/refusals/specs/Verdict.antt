@@ -83,3 +83,12 @@ refused-then f e = rw (← e)
 
 pub answered-then : {A B : Type 0} {u : Verdict A} {a : A} (f : A → Verdict B) → answered a ≡ u → f a ≡ u then f
 answered-then f e = rw (← e)
+
+-- ---- what an answer tells of the chain that gave it
+pub test-answered : {A : Type 0} (test : Bool) (number : ℕ) (v : Verdict A) (a : A) → refuseWhen test number before v ≡ answered a → (test ≡ false) × (v ≡ answered a)
+test-answered true number v a e = let z : _≡_ {A = ℕ} 0 1 = cc in absurd (omega arith)
+test-answered false number v a e = (refl, e)
+
+pub then-answered : {A B : Type 0} (u : Verdict A) (f : A → Verdict B) (b : B) → u then f ≡ answered b → (a : A) × (u ≡ answered a) × (f a ≡ answered b)
+then-answered (answered a) f b e = (a, refl, e)
+then-answered (refused number segment) f b e = let z : _≡_ {A = ℕ} 0 1 = cc in absurd (omega arith)
