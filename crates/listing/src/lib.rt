@@ -1,6 +1,8 @@
 // The listing: from the input's bytes to its lines, in parts that fit the lent room.
 ghost use mathlib.Core.Path.{_≡_};
 ghost use lib.ListN.{length};
+ghost use Rattle.listing.specs.Listing.{listing};
+ghost use Rattle.listing.specs.Ready.{partAnswer, partHeld};
 
 mod layout;
 mod lines;
@@ -10,4 +12,28 @@ mod parts;
 pub struct Part {
     pub lines: usize,
     pub bytes: usize,
+}
+
+// Room for all the words of the longest input.
+fn zeros() -> [i64; 8192]
+    ensures { λ r. ⌜ 8192 ≡ length r ⌝ }
+{
+    [0; 8192]
+}
+
+// The whole lines of the listing, from line `from` on, that fit the room. A listing that is refused is the one line that says so.
+pub fn list_part(input: &[u8], from: usize, room: &mut [u8]) -> Part
+    ensures { λ r. ⌜ r ≡ partAnswer (listing (now (input .entry))) from (length (now (room .entry))) ⌝ }
+    ensures { λ r. ⌜ now (room .exit) ≡ partHeld (listing (now (input .entry))) from (now (room .entry)) ⌝ }
+{
+    if 65536 < input.len() {
+        return parts::put_refusal(13, from, room);
+    }
+    if input.len() % 8 != 0 {
+        return parts::put_refusal(13, from, room);
+    }
+    let n = input.len() / 8;
+    let mut words = zeros();
+    words::inner::read_words(input, n, &mut words);
+    parts::put_words(&words[..n], from, room)
 }
