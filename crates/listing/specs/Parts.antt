@@ -58,3 +58,16 @@ fitting-end lines i room h = go (drop i lines) (rw length-drop (omega arith))
     go : (l : List (List ℕ)) → length l ≡ 0 → fitting room l ≡ 0
     go [] e = unfold fitting in refl
     go (x ∷ l) e = absurd (omega arith)
+
+first-lines-fit : (ls : List (List ℕ)) (room : ℕ) → length (concat (take (fitting room ls) ls)) ≤ room
+unfolding fitting
+first-lines-fit [] room = omega arith
+first-lines-fit (l ∷ ls) room = go (ltb room (length l)) refl (first-lines-fit ls (room - length l))
+  where
+    go : (b : Bool) → ltb room (length l) ≡ b → length (concat (take (fitting (room - length l) ls) ls)) ≤ room - length l → length (concat (take (cond b 0 (suc (fitting (room - length l) ls))) (l ∷ ls))) ≤ room
+    go true e h = omega arith
+    go false e h = rw length-append (omega (arith, ltb-false room (length l) e))
+
+-- A part fits its room.
+pub part-fits : (lines : List (List ℕ)) (i room : ℕ) → length (partOf lines i room) ≤ room
+part-fits lines i room = first-lines-fit (drop i lines) room

@@ -73,7 +73,15 @@ fn line_at(
 }
 
 // The lines from `from` on that fit the room.
-pub fn put_lines(leap: &[i64], sunstart: Second, sun: &[i64], moonstart: Second, moon: &[i64], from: usize, room: &mut [u8]) -> Part
+pub fn put_lines(
+    leap: &[i64],
+    sunstart: Second,
+    sun: &[i64],
+    moonstart: Second,
+    moon: &[i64],
+    from: usize,
+    room: &mut [u8],
+) -> Part
     requires { ⌜ Ready (inputOf (now leap) (sunstart .0) (now sun) (moonstart .0) (now moon)) ⌝ }
     ensures { λ r. ⌜ r ≡ partAnswer (texts (inputOf (now (leap .entry)) (sunstart .0) (now (sun .entry)) (moonstart .0) (now (moon .entry)))) from (length (now (room .entry))) ⌝ }
     ensures { λ r. ⌜ now (room .exit) ≡ partHeld (texts (inputOf (now (leap .entry)) (sunstart .0) (now (sun .entry)) (moonstart .0) (now (moon .entry)))) from (now (room .entry)) ⌝ }
@@ -134,7 +142,15 @@ pub fn put_refusal(number: u8, from: usize, room: &mut [u8]) -> Part
 }
 
 // A part of what is printed for an input.
-pub fn put_input(leap: &[i64], sunstart: Second, sun: &[i64], moonstart: Second, moon: &[i64], from: usize, room: &mut [u8]) -> Part
+pub fn put_input(
+    leap: &[i64],
+    sunstart: Second,
+    sun: &[i64],
+    moonstart: Second,
+    moon: &[i64],
+    from: usize,
+    room: &mut [u8],
+) -> Part
     ensures { λ r. ⌜ r ≡ partAnswer (printed (linesOf (inputOf (now (leap .entry)) (sunstart .0) (now (sun .entry)) (moonstart .0) (now (moon .entry))))) from (length (now (room .entry))) ⌝ }
     ensures { λ r. ⌜ now (room .exit) ≡ partHeld (printed (linesOf (inputOf (now (leap .entry)) (sunstart .0) (now (sun .entry)) (moonstart .0) (now (moon .entry))))) from (now (room .entry)) ⌝ }
 {
@@ -156,7 +172,15 @@ fn put_sections(words: &[i64], sun: usize, moon: usize, from: usize, room: &mut 
     let behind = moon + 2;
     let sunstart = Second(words[sun + 1]);
     let moonstart = Second(words[moon + 1]);
-    put_input(&words[1..sun], sunstart, &words[first..moon], moonstart, &words[behind..], from, room)
+    put_input(
+        &words[1..sun],
+        sunstart,
+        &words[first..moon],
+        moonstart,
+        &words[behind..],
+        from,
+        room,
+    )
 }
 
 // A part of what is printed for the input's words.

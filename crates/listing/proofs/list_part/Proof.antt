@@ -31,7 +31,6 @@ in-words : (input : List ℕ) → length input ≤ 65536 → length input % 8 �
 unfolding linesOfBytes
 in-words input h e = rw (le-ltb 65536 (length input) h, eq-eqb (length input % 8) 0 e)
 
-
 put-refusal-requires : tie.Need-put-refusal-requires
 put-refusal-requires c κs = search needs
 

@@ -1,0 +1,4 @@
+// Real series of 2000.
+fn main() {
+    list_run::run();
+}

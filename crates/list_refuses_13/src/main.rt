@@ -1,0 +1,4 @@
+// A word left over: 13.
+fn main() {
+    list_run::run();
+}

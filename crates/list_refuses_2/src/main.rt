@@ -1,0 +1,4 @@
+// A Moon with no segment: 2.
+fn main() {
+    list_run::run();
+}
