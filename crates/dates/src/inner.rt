@@ -12,11 +12,11 @@ use whole::inner::subtract;
 ghost use mathlib.Core.Path.{_≡_};
 ghost use mathlib.Core.Bool.{true};
 ghost use Prim.Native.Nat.{_<_, _≤_};
-ghost use lib.IntN.{pos, negsuc};
+ghost use lib.IntN.{pos};
 ghost use lib.Signed.{_≤ℤ_};
 ghost use lib.ListN.{length, take};
 ghost use Rattle.whole.specs.Ranges.{Within};
-ghost use Rattle.dates.specs.Calendar.{leapYear, leapYearsTo, newYear, yearOf, monthLengths, sum, yearLength, monthLength, daysBefore, monthsOver, validDate, numberOf, dateInYear, dateFor, valid, dayNumber, guess};
+ghost use Rattle.dates.specs.Calendar.{leapYear, leapYearsTo, newYear, yearOf, monthLengths, sum, yearLength, monthLength, daysBefore, monthsOver, dateInYear, dateFor, valid, dayNumber, guess};
 ghost use Rattle.dates.specs.Answers.{hasDate};
 
 // Whether a day lies in the range of days that have dates.

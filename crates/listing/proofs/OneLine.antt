@@ -1,5 +1,5 @@
 -- A listing that is one line: what its parts are. Assumes nothing.
-use mathlib.Core.Path.{_≡_, refl, sym, ap, _∙_}
+use mathlib.Core.Path.{_≡_, refl, _∙_}
 use mathlib.Core.List.{List, [], _∷_, _++_, append-nil}
 use Prim.Native.Nat.{ℕ, zero, suc, _+_, _≤_, _<_}
 use native.Mathlib.Omega.{arith}
@@ -8,7 +8,7 @@ use lib.ListN.{length, take, drop}
 use lib.Seq.{drop-nil}
 use native.Mathlib.Nat.{zero-add}
 use Rattle.listing.specs.declared.Part.{Part}
-use Rattle.listing.specs.Parts.{fitting, linesIn, partOf}
+use Rattle.listing.specs.Parts.{fitting}
 use Rattle.listing.specs.Ready.{partAnswer, partHeld}
 
 -- an answer, and what the room holds

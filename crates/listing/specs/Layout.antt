@@ -1,16 +1,15 @@
 -- The input (document 01, "The listing program"): leap count and (day, offset) pairs; then Sun: segment count, start, coefficients; then Moon
 -- likewise. Input too long, not in whole words, too short, with words left over or with a negative count is 13. Assumes nothing.
 use mathlib.Core.Path.{_≡_, ap}
-use mathlib.Core.Bool.{Bool, not}
 use mathlib.Core.List.{List}
-use Prim.Native.Nat.{ℕ, suc, _+_, _*_, _-_, _≤_, _<_}
+use Prim.Native.Nat.{ℕ, _+_, _*_, _-_, _≤_, _<_}
 use native.Mathlib.Omega.{arith}
 use borrow.Author.Tests.{leb-false, ltb-false}
-use lib.Dec.{ltb, leb, eqb}
+use lib.Dec.{ltb, leb}
 use lib.IntN.{ℤ, pos, natAbs}
 use lib.Signed.{ltZ}
 use lib.ListN.{length, getD, take, drop}
-use Rattle.refusals.specs.Verdict.{Verdict, answered, refused, refuseWhen, refusal, test-answered, then-answered, _before_, _then_}
+use Rattle.refusals.specs.Verdict.{Verdict, answered, refuseWhen, refusal, test-answered, then-answered, _before_, _then_}
 use Rattle.listing.specs.declared.layout.Places.{Places}
 use Rattle.listing.specs.declared.layout.EndAnswer.{EndAnswer}
 use Rattle.listing.specs.declared.layout.EndAnswer.the-variants as end-answer

@@ -1,12 +1,10 @@
 -- The lines of a list of marks that all lie after the first leap entry. Assumes nothing.
-use mathlib.Core.Path.{_≡_, refl, sym, ap, _∙_}
-use mathlib.Core.Bool.{Bool, true, false}
-use mathlib.Core.List.{List, [], _∷_, _++_, map}
-use Prim.Native.Nat.{ℕ, zero, suc, _+_, _<_, _≤_}
-use native.Mathlib.Omega.{arith}
+use mathlib.Core.Path.{_≡_}
+use mathlib.Core.Bool.{true, false}
+use mathlib.Core.List.{List}
+use Prim.Native.Nat.{ℕ, _<_}
 use lib.IntN.{ℤ, pos, natAbs}
 use lib.ListN.{length, getD}
-use Rattle.refusals.specs.Verdict.{Verdict, answered, refused, _then_}
 use Rattle.text.specs.Text.{line, date, time}
 use Rattle.text.specs.declared.Moment.{Moment}
 use Rattle.clock.specs.declared.ShownTime.{ShownTime}

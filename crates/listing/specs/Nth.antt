@@ -1,32 +1,30 @@
 -- The k-th mark of an accepted series: its index, and that it can be looked for and converted. Assumes nothing.
-use mathlib.Core.Path.{_≡_, refl, sym, ap, _∙_}
+use mathlib.Core.Path.{_≡_, refl}
 use mathlib.Core.Bool.{Bool, true, _&&_}
 use mathlib.Core.List.{List, [], _∷_}
-use Prim.Native.Nat.{ℕ, zero, suc, _+_, _*_, _<_, _≤_}
+use Prim.Native.Nat.{ℕ, zero, suc, _*_, _<_, _≤_}
 use native.Mathlib.Omega.{arith}
-use lib.IntN.{ℤ, pos, negsuc, _+ℤ_, _-ℤ_}
-use lib.Signed.{_≤ℤ_, _<ℤ_, leZ}
+use lib.IntN.{ℤ, pos, negsuc, _+ℤ_}
+use lib.Signed.{_≤ℤ_, _<ℤ_}
 use lib.ListN.{length, getD}
 use mir.Syntax.{w64}
 use mir.Val.{SFits}
-use Rattle.whole.specs.Parts.{ℤ-rules, →≤}
+use Rattle.whole.specs.Parts.{→≤}
 use Rattle.whole.specs.Laws.{≤-trans, <→≤, abs--}
 use Rattle.whole.specs.Solver.{⇑, ⇓, ring, yes-le}
 use Rattle.whole.specs.Ranges.{fit-hyp}
 use Rattle.whole.specs.Floor.{floorDiv-fits, floorDiv-holds}
 use Rattle.whole.specs.Distance.{distanceFrom, distance-is, between-fits}
-use Rattle.clock.specs.declared.Second.{Second}
 use Rattle.clock.specs.Clock.{convertible}
 use Rattle.series.specs.declared.Body.{Body}
 use Rattle.series.specs.Bodies.{numbers}
 use Rattle.series.specs.Series.{valueAt, lastSecond, segmentLength, segments, InSpan}
 use Rattle.series.specs.Acceptance.{Accepted}
-use Rattle.series.specs.Accepted.{Facts}
 use Rattle.series.specs.Known.{facts}
 use Rattle.series.specs.Span.{span-short}
 use Rattle.series.specs.Rising.{Rising}
 use Rattle.series.specs.Theorems.{accepted-rises}
-use Rattle.marks.specs.Marks.{Mark, indexAt}
+use Rattle.marks.specs.Marks.{indexAt}
 use Rattle.marks.specs.Crossings.{Crossing, marked}
 use Rattle.marks.specs.Indices.{index-mono}
 use Rattle.marks.specs.StretchLaws.{length-is}

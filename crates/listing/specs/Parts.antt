@@ -1,14 +1,14 @@
 -- A listing goes out in parts: from the i-th line on, the whole lines that fit the room. The laws at the top say that the parts, joined, are the
 -- listing, and that a part is empty only where no line is left, if the room takes the longest line. Assumes nothing.
-use mathlib.Core.Path.{_≡_, refl, sym, ap, ap₂, _∙_}
+use mathlib.Core.Path.{_≡_, refl, sym, ap, _∙_}
 use mathlib.Core.Bool.{Bool, true, false, cond}
 use mathlib.Core.List.{List, [], _∷_, _++_, append-assoc}
-use Prim.Native.Nat.{ℕ, zero, suc, _+_, _-_, _≤_, _<_}
+use Prim.Native.Nat.{ℕ, suc, _+_, _-_, _≤_, _<_}
 use native.Mathlib.Omega.{arith}
-use borrow.Author.Tests.{ltb-true, ltb-false, lt-ltb, le-ltb}
+use borrow.Author.Tests.{ltb-false, lt-ltb, le-ltb}
 use lib.Dec.{ltb}
 use lib.ListN.{length, take, drop, getD, length-append, length-drop, take-append-drop}
-use lib.Seq.{drop-cons, drop-drop, take-suc}
+use lib.Seq.{drop-cons, drop-drop}
 
 abbrev pub concat : List (List ℕ) → List ℕ
 concat [] = []

@@ -2,13 +2,13 @@
 use mathlib.Core.Path.{_≡_, refl, sym, ap, _∙_}
 use mathlib.Core.Bool.{Bool, true, false, not}
 use mathlib.Core.List.{List, [], _∷_, _++_, map, append-nil}
-use Prim.Native.Nat.{ℕ, zero, suc, _+_, _-_, _<_, _≤_}
+use Prim.Native.Nat.{ℕ, zero, suc, _+_, _<_}
 use native.Mathlib.Omega.{arith}
 use borrow.Author.Tests.{not-false}
-use lib.IntN.{ℤ, pos}
+use lib.IntN.{ℤ}
 use lib.ListN.{length, getD, drop, length-append, length-map, List·getD-append}
 use lib.Seq.{getD-append-add}
-use Rattle.refusals.specs.Verdict.{Verdict, answered, refused, refusal, accepted, refuseWhen-accepted, _before_, _then_}
+use Rattle.refusals.specs.Verdict.{Verdict, answered, refused, refusal, accepted, refuseWhen-accepted, _then_}
 use Rattle.refusals.specs.declared.Check.{Check}
 use Rattle.refusals.specs.declared.Check.the-variants as check
 use Rattle.clock.specs.Leap.{lawful, holds}
@@ -19,7 +19,7 @@ use Rattle.clock.proofs.Used.{none-used}
 use Rattle.clock.proofs.Table as table
 use Rattle.series.specs.declared.Body.{Body}
 use Rattle.series.specs.declared.Body.the-variants.{Sun, Moon}
-use Rattle.series.specs.Acceptance.{Accepted, judged}
+use Rattle.series.specs.Acceptance.{Accepted}
 use Rattle.marks.specs.Marks.{Mark}
 use Rattle.marks.specs.Listed.{listedMarks}
 use Rattle.listing.specs.declared.Part.{Part}

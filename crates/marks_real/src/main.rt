@@ -4,7 +4,7 @@ use clock::Second;
 use marks::ListAnswer;
 use series::Body;
 ghost use mathlib.Core.Path.{_≡_};
-ghost use Prim.Native.Nat.{_<_, _≤_};
+ghost use Prim.Native.Nat.{_<_};
 ghost use lib.ListN.{length};
 
 fn zeros() -> [i64; 2048]

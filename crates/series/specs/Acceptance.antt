@@ -1,14 +1,14 @@
 -- When a series is accepted, and by which number it is refused otherwise (document 01, "Segments" and "Refusal numbers"): 2; then 3 over all segments;
 -- then 4 over all; then 5 over all joints. Assumes nothing: these are definitions.
 use mathlib.Core.Path.{_≡_}
-use mathlib.Core.Bool.{Bool, true, false, not, _||_}
+use mathlib.Core.Bool.{Bool, not, _||_}
 use mathlib.Core.List.{List}
-use Prim.Native.Nat.{ℕ, zero, suc, _+_, _*_, _-_, _/_, _%_}
+use Prim.Native.Nat.{ℕ, zero, suc, _*_, _-_, _%_}
 use lib.Dec.{ltb, eqb}
-use lib.IntN.{ℤ, pos, negsuc, negℤ, natAbs, _+ℤ_, _-ℤ_}
+use lib.IntN.{ℤ, pos, negℤ, natAbs, _-ℤ_}
 use lib.Signed.{ltZ}
 use lib.ListN.{length, getD}
-use Rattle.refusals.specs.Verdict.{Verdict, answered, refused, accepted, refuseWhen, refusal, _before_}
+use Rattle.refusals.specs.Verdict.{Verdict, answered, accepted, refuseWhen, refusal, _before_}
 use Rattle.refusals.specs.Search.{firstBad, perSegment}
 use Rattle.chebyshev.specs.Polynomials.{S}
 use Rattle.chebyshev.specs.Segment.{value, slope}
@@ -16,7 +16,7 @@ use Rattle.series.specs.declared.Body.{Body}
 use Rattle.series.specs.declared.ValueAnswer.{ValueAnswer}
 use Rattle.series.specs.declared.ValueAnswer.the-variants.{Value, Refused}
 use Rattle.series.specs.Bodies.{numbers}
-use Rattle.series.specs.Series.{segment, segments, valueAt, InSpan, lastSecond}
+use Rattle.series.specs.Series.{segment, segments, valueAt, lastSecond}
 
 -- 2: coefficient count not a multiple of 14, none, too many, or start out of range
 abbrev pub judgedShape : Body → ℤ → ℕ → Verdict (Unit {0})

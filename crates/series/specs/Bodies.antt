@@ -1,6 +1,6 @@
 -- The numbers in which Sun and Moon differ (document 01, "Segments" and "Marks"), and the few facts about them that the theory uses. Assumes nothing.
 use mathlib.Core.Path.{_≡_, refl}
-use Prim.Native.Nat.{ℕ, _+_, _*_, _≤_, _<_}
+use Prim.Native.Nat.{ℕ, _*_, _≤_, _<_}
 use lib.Dec.{lit≤, lit<}
 use Rattle.chebyshev.specs.Polynomials.{S}
 use Rattle.series.specs.declared.Body.{Body}

@@ -1,23 +1,21 @@
 -- What acceptance tells: each refusal that was not given, as a fact. Assumes nothing.
-use mathlib.Core.Path.{_≡_, refl, sym, ap, _∙_, subst}
-use mathlib.Core.Bool.{Bool, true, false, not, _||_}
+use mathlib.Core.Path.{_≡_, refl, subst}
+use mathlib.Core.Bool.{Bool, true, false, _||_}
 use mathlib.Core.List.{List, [], _∷_}
-use mathlib.Core.Logic.{_⊎_, inl, inr, ⊎-elim}
 use Prim.Native.Nat.{ℕ, zero, suc, _+_, _*_, _-_, _/_, _%_, _<_, _≤_}
 use native.Mathlib.Omega.{arith}
 use native.Mathlib.Nat.{div-add-mod', mod-lt}
 use native.Mathlib.Decide.{decLt}
 use borrow.Author.Tests.{ltb-false, eqb-true, eqb-false, not-false}
-use lib.Dec.{ltb, eqb}
 use lib.IntN.{ℤ, pos, negℤ, natAbs}
 use lib.Signed.{_≤ℤ_, ltZ}
-use lib.ListN.{length, getD, take, drop, length-take, length-drop}
+use lib.ListN.{length, getD, take, drop, length-drop}
 use lib.Seq.{getD-take, getD-drop, length-take-le}
 use Rattle.whole.specs.Ranges.{Within}
 use Rattle.whole.specs.Solver.{lt-no}
-use Rattle.refusals.specs.Verdict.{Verdict, accepted, before-accepted, refuseWhen-accepted}
+use Rattle.refusals.specs.Verdict.{accepted, before-accepted, refuseWhen-accepted}
 use Rattle.refusals.specs.Search.{firstBad, firstBad-none, perSegment, perSegment-accepted}
-use Rattle.chebyshev.specs.Segment.{InRange, coefficient, slope}
+use Rattle.chebyshev.specs.Segment.{InRange, coefficient}
 use Rattle.series.specs.declared.Body.{Body}
 use Rattle.series.specs.Bodies.{numbers}
 use Rattle.series.specs.Series.{segment, segments}

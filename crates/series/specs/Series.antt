@@ -1,9 +1,9 @@
 -- A series: a start second and fourteen coefficients a segment. Which segment has a second, and at which place; the value and the exact sum there
 -- (document 01, "Segments"). Assumes nothing: these are definitions.
 use mathlib.Core.List.{List}
-use Prim.Native.Nat.{ℕ, _+_, _*_, _/_, _%_, _<_}
+use Prim.Native.Nat.{ℕ, _*_, _/_, _%_}
 use lib.IntN.{ℤ, pos, _+ℤ_, _-ℤ_, _*ℤ_}
-use lib.Signed.{_≤ℤ_, _<ℤ_}
+use lib.Signed.{_≤ℤ_}
 use lib.ListN.{length, take, drop}
 use Rattle.whole.specs.Distance.{distanceFrom}
 use Rattle.chebyshev.specs.Segment.{value, exact}

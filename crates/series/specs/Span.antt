@@ -1,17 +1,13 @@
 -- Where a second of the span lies: how far from the start, in which segment, at which place. Assumes nothing.
-use mathlib.Core.Path.{_≡_, refl, sym, ap, _∙_}
 use mathlib.Core.List.{List, [], _∷_}
-use Prim.Native.Nat.{ℕ, _+_, _*_, _-_, _/_, _%_, _^_, _<_, _≤_}
+use Prim.Native.Nat.{ℕ, _*_, _/_, _%_, _<_, _≤_}
 use native.Mathlib.Omega.{arith}
-use native.Mathlib.Nat.{div-add-mod', mod-lt, mul-le-mul, le-refl, div-lt-iff-lt-mul}
+use native.Mathlib.Nat.{mod-lt, mul-le-mul, le-refl, div-lt-iff-lt-mul}
 use lib.Dec.{lit≤}
-use lib.IntN.{ℤ, pos, negsuc, natAbs, _+ℤ_, _-ℤ_, _*ℤ_}
-use lib.Signed.{_≤ℤ_}
-use lib.ListN.{length}
+use lib.IntN.{ℤ, pos, negsuc, natAbs, _+ℤ_, _-ℤ_}
 use mir.Syntax.{w64}
 use mir.Val.{SFits}
-use Rattle.whole.specs.Parts.{≡→, parts-add, parts-abs}
-use Rattle.whole.specs.Laws.{abs-*, →abs}
+use Rattle.whole.specs.Laws.{abs-*}
 use Rattle.whole.specs.Solver.{⇑, ⇓, ring}
 use Rattle.whole.specs.Ranges.{Within}
 use Rattle.whole.specs.Distance.{distanceFrom, distance-is}

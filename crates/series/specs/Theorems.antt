@@ -1,31 +1,31 @@
 -- What is proved of an accepted series: over its whole span, joints included, the value rises from each second to the next, and by less than a mark;
 -- and the exact sum goes with it. Assumes nothing.
-use mathlib.Core.Path.{_≡_, refl, sym, ap, _∙_}
+use mathlib.Core.Path.{_≡_, refl, ap}
 use mathlib.Core.List.{List, [], _∷_}
 use mathlib.Core.Logic.{_⊎_, inl, inr}
-use Prim.Native.Nat.{ℕ, zero, suc, _+_, _*_, _-_, _/_, _%_, _<_, _≤_}
+use Prim.Native.Nat.{ℕ, _+_, _*_, _-_, _/_, _%_, _<_}
 use native.Mathlib.Omega.{arith}
 use native.Mathlib.Nat.{mod-lt}
 use native.Mathlib.Decide.{decLt}
-use lib.IntN.{ℤ, pos, negsuc, negℤ, _+ℤ_, _-ℤ_, _*ℤ_}
+use lib.IntN.{ℤ, pos, negℤ, _+ℤ_, _-ℤ_, _*ℤ_}
 use lib.Signed.{_≤ℤ_, _<ℤ_}
-use Rattle.whole.specs.Parts.{→≤, _⩽_, _≺_}
-use Rattle.whole.specs.Laws.{≤-trans, <→≤}
+use Rattle.whole.specs.Parts.{_⩽_, _≺_}
+use Rattle.whole.specs.Laws.{<→≤}
 use Rattle.whole.specs.Solver.{⇑, ⇓, ring}
 use Rattle.whole.specs.Ranges.{Within}
-use Rattle.whole.specs.Distance.{distanceFrom, distance-is, distance-next}
+use Rattle.whole.specs.Distance.{distanceFrom, distance-next}
 use Rattle.whole.specs.Floor.{div-step, div-wrap}
 use Rattle.chebyshev.specs.Polynomials.{S}
-use Rattle.chebyshev.specs.Segment.{value, exact, divisor, InRange}
+use Rattle.chebyshev.specs.Segment.{value, exact, divisor}
 use Rattle.chebyshev.specs.Theorems.{divisor-positive, value-under, value-over, exact-rises, value-rises, value-rises-little}
 use Rattle.series.specs.declared.Body.{Body}
 use Rattle.series.specs.Bodies.{numbers, Lawful, lawful}
-use Rattle.series.specs.Series.{segment, segments, segmentLength, lastSecond, InSpan, segmentAt, placeAt, placeAfter, valueAt, exactAt}
+use Rattle.series.specs.Series.{segment, segments, segmentLength, lastSecond, InSpan, segmentAt, placeAfter, valueAt, exactAt}
 use Rattle.series.specs.Acceptance.{Accepted, rise}
 use Rattle.series.specs.Accepted.{Facts}
 use Rattle.series.specs.Rising.{Rising, Tracking}
 use Rattle.series.specs.Known.{facts}
-use Rattle.series.specs.Span.{some-seconds, place-within, distance-in-span, segment-in-span}
+use Rattle.series.specs.Span.{some-seconds, place-within, segment-in-span}
 
 module _ (body : Body) (start : ℤ) (coefs : List ℤ) (e : Accepted body start coefs) where
   known : Facts body start coefs

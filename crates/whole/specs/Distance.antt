@@ -1,18 +1,17 @@
 -- How far one whole number lies after another, and the number half way between them. Assumes nothing.
-use mathlib.Core.Path.{_≡_, refl, sym, ap, _∙_}
-use mathlib.Core.List.{List, [], _∷_}
-use Prim.Native.Nat.{ℕ, zero, suc, _+_, _*_, _/_, _^_, _≤_, _<_}
+use mathlib.Core.Path.{_≡_}
+use mathlib.Core.List.{[], _∷_}
+use Prim.Native.Nat.{ℕ, _+_, _/_, _^_, _≤_, _<_}
 use native.Mathlib.Omega.{arith}
 use native.Mathlib.Nat.{div-le-self}
 use lib.IntN.{ℤ, pos, negsuc, natAbs, _+ℤ_, _-ℤ_}
-use lib.Signed.{_≤ℤ_, _<ℤ_, nonNeg, yes-nonNeg, quotZ, mag}
+use lib.Signed.{_≤ℤ_, nonNeg, yes-nonNeg, mag}
 use lib.Dec.{T}
 use mir.Syntax.{w64}
 use mir.Val.{Fits, SFits}
-use Rattle.whole.specs.Parts.{ℤ-rules, posPart, negPart, ≤→, →≤, parts-abs}
-use Rattle.whole.specs.Laws.{abs-of-nonneg, negPart-of-nonneg}
+use Rattle.whole.specs.Parts.{posPart, negPart, ≤→}
+use Rattle.whole.specs.Laws.{abs-of-nonneg}
 use Rattle.whole.specs.Solver.{⇑, ⇓, ring}
-use Rattle.whole.specs.Floor.{floorDiv, floorDiv-le, floorDiv-ge}
 
 abbrev pub distanceFrom : ℤ → ℤ → ℕ
 distanceFrom a b = natAbs (b -ℤ a)

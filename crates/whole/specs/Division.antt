@@ -1,17 +1,14 @@
 -- The machine's division, remainder and shift of signed numbers, and how to get a quotient that is rounded down from them. Assumes nothing.
-use mathlib.Core.Path.{_≡_, refl, sym, ap, _∙_, subst}
+use mathlib.Core.Path.{_≡_, refl, sym, ap, _∙_}
 use mathlib.Core.List.{List, [], _∷_}
-use mathlib.Core.Logic.{_⊎_, inl, inr, ⊎-elim}
-use Prim.Native.Nat.{ℕ, zero, suc, _+_, _*_, _-_, _/_, _%_, _≤_, _<_}
+use Prim.Native.Nat.{ℕ, zero, suc, _/_, _%_, _≤_, _<_}
 use native.Mathlib.Omega.{arith}
 use native.Mathlib.Nat.{div-add-mod', mod-lt, div-le-self}
 use lib.IntN.{ℤ, pos, negsuc, negℤ, _+ℤ_, _-ℤ_, _*ℤ_}
 use lib.Signed.{_≤ℤ_, _<ℤ_}
-use Rattle.whole.specs.Parts.{posPart, negPart, ℤ-rules, →≤, →≡, →<, posPart-mul, negPart-mul, parts-add, ≤→, <→, ≡→}
-use Rattle.whole.specs.Laws.{≤-total, ≤-antisymm, <→≤, ≤-trans, *-mono}
+use Rattle.whole.specs.Parts.{→<, <→}
 use lib.Signed.{quotZ, remZ, shrZ, mag, mag-rem}
 use lib.IntN.{natAbs}
-use Rattle.whole.specs.Ranges.{Bound}
 use mir.Syntax.{Width}
 use mir.Val.{SFits, toZ, ofZ}
 use mir.Facts.{toZ-ofZ}

@@ -1,21 +1,19 @@
--- Division by a positive number, rounded down. `divF z m` is the quotient and `modF z m` the remainder, a natural number below m. Assumes nothing.
-use mathlib.Core.Path.{_≡_, refl, sym, ap, _∙_, subst}
+-- Division by a positive number, rounded down. `floorDiv z m` is the quotient and `floorMod z m` the remainder, a natural number below m. Assumes nothing.
+use mathlib.Core.Path.{_≡_, sym, ap}
 use mathlib.Core.List.{List, [], _∷_}
-use mathlib.Core.Logic.{_⊎_, inl, inr, ⊎-elim}
-use Prim.Native.Nat.{ℕ, zero, suc, _+_, _*_, _-_, _/_, _%_, _≤_, _<_}
+use mathlib.Core.Logic.{⊎-elim}
+use Prim.Native.Nat.{ℕ, suc, _+_, _*_, _-_, _/_, _%_, _≤_, _<_}
 use native.Mathlib.Omega.{arith}
 use native.Mathlib.Nat.{div-add-mod', mod-lt, div-le-self}
-use lib.IntN.{ℤ, pos, negsuc, negℤ, _+ℤ_, _-ℤ_, _*ℤ_}
+use lib.IntN.{ℤ, pos, negsuc, _+ℤ_, _*ℤ_}
 use lib.Signed.{_≤ℤ_, _<ℤ_}
-use Rattle.whole.specs.Parts.{posPart, negPart, ℤ-rules, →≤, →≡, →<, posPart-mul, negPart-mul, parts-add, ≤→, <→, ≡→}
-use Rattle.whole.specs.Laws.{≤-total, ≤-antisymm, <→≤, ≤-trans, *-mono}
-use lib.Signed.{quotZ, remZ, shrZ, mag, mag-rem}
+use Rattle.whole.specs.Parts.{ℤ-rules, →≤, →≡, →<, posPart-mul, negPart-mul, parts-add, ≡→}
+use Rattle.whole.specs.Laws.{≤-total, ≤-antisymm, ≤-trans, *-mono}
+use lib.Signed.{mag}
 use lib.IntN.{natAbs}
 use Rattle.whole.specs.Ranges.{Bound}
 use mir.Syntax.{Width}
-use mir.Val.{SFits, toZ, ofZ}
-use mir.Facts.{toZ-ofZ}
-use Rattle.whole.specs.Parts.{posPart-neg, negPart-neg}
+use mir.Val.{SFits}
 use Rattle.whole.specs.Solver.{⇑, ⇓, ring}
 
 unfoldable pub floorDiv : ℤ → ℕ → ℤ
@@ -115,7 +113,7 @@ floorDiv-abs (negsuc a) m = omega (arith, div-le-self a m)
 pub floorDiv-holds : (a : ℤ) (m n : ℕ) → natAbs a ≤ n → natAbs (floorDiv a m) ≤ n
 floorDiv-holds a m n h = omega (arith, floorDiv-abs a m)
 
--- a rule to list beside `zb`: the quotient is no larger
+-- a rule to list beside `bounds`: the quotient is no larger
 abbrev pub bound-floor : {a : ℤ} (m : ℕ) → Bound a → Bound (floorDiv a m)
 bound-floor {a} m x = record { bound = x .bound; holds = floorDiv-holds a m (x .bound) (x .holds) }
 

@@ -1,13 +1,13 @@
 -- The laws of ℤ as an ordered commutative ring, and of `natAbs`. Assumes nothing.
-use mathlib.Core.Path.{_≡_, refl, sym, ap, _∙_, subst}
+use mathlib.Core.Path.{_≡_, ap}
 use mathlib.Core.Logic.{_⊎_, inl, inr, ⊎-elim, _↔_}
-use Prim.Native.Nat.{ℕ, zero, suc, _+_, _*_, _-_, _^_, _≤_, _<_, zero-le}
+use Prim.Native.Nat.{ℕ, _+_, _*_, _≤_}
 use native.Mathlib.Omega.{arith}
 use native.Mathlib.Nat.{mul-le-mul}
 use native.Mathlib.Decide.{decLe}
-use lib.IntN.{ℤ, pos, negsuc, negℤ, natAbs, subℕ, _+ℤ_, _-ℤ_, _*ℤ_}
-use lib.Signed.{_≤ℤ_, _<ℤ_, leZ, ltZ, mag}
-use Rattle.whole.specs.Parts.{posPart, negPart, ℤ-rules, ≤→, →≤, <→, →<, ≡→, →≡, parts-add, parts-abs, posPart-mul, negPart-mul, posPart-neg, negPart-neg, one-part-zero}
+use lib.IntN.{ℤ, pos, negsuc, negℤ, natAbs, _+ℤ_, _-ℤ_, _*ℤ_}
+use lib.Signed.{_≤ℤ_, _<ℤ_}
+use Rattle.whole.specs.Parts.{posPart, negPart, ℤ-rules, →≤, →<, parts-add, parts-abs, posPart-mul, negPart-mul, posPart-neg, negPart-neg, one-part-zero}
 use Rattle.whole.specs.Small.{⇑, ⇓, small, #1, #2, #3, #4}
 
 pub +-comm : (a b : ℤ) → a +ℤ b ≡ b +ℤ a

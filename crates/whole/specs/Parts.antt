@@ -1,14 +1,13 @@
 -- A whole number as the difference of two natural ones, its positive and its negative part: what sum, product, absolute value, orders and
 -- equality are in terms of them, so that `omega` can read them (`ℤ-rules`). Assumes nothing.
-use mathlib.Core.Path.{_≡_, refl, sym, ap, _∙_, subst}
+use mathlib.Core.Path.{_≡_, refl, ap, subst}
 use mathlib.Core.Bool.{Bool, true, false, not, cond}
-use mathlib.Core.Logic.{_⊎_, inl, inr, ⊎-elim}
-use Prim.Native.Nat.{ℕ, zero, suc, _+_, _*_, _-_, _^_, _≤_, _<_, zero-le}
+use mathlib.Core.Logic.{_⊎_, inl, inr}
+use Prim.Native.Nat.{ℕ, zero, suc, _+_, _*_, _-_, _≤_, _<_}
 use native.Mathlib.Omega.{arith}
-use native.Mathlib.Nat.{mul-zero, zero-mul, mul-le-mul}
-use lib.IntN.{ℤ, pos, negsuc, negℤ, natAbs, subℕ, _+ℤ_, _-ℤ_, _*ℤ_}
-use lib.Signed.{_≤ℤ_, _<ℤ_, leZ, ltZ, mag}
-use lib.Dec.{T, leb, ltb, leb→le, le→leb, ltb→lt, lt→ltb, nltb→le}
+use lib.IntN.{ℤ, pos, negsuc, negℤ, natAbs, subℕ, _+ℤ_, _*ℤ_}
+use lib.Signed.{_≤ℤ_, _<ℤ_, leZ, ltZ}
+use lib.Dec.{T, ltb, leb→le, le→leb, ltb→lt, lt→ltb, nltb→le}
 
 -- ---- the orders at the level of `_≡_`, so that `a +ℤ b ⩽ c` needs no brackets: the library's `_≤ℤ_` and `_<ℤ_` bind tighter than `_+ℤ_`
 infix 4 _⩽_ _≺_

@@ -1,7 +1,7 @@
 -- Ranges of whole numbers. `Within n z` says |z| ≤ n, `All n xs` says it of each element of a list, and `fits (search bounds) tt` shows from such
 -- facts that an operation's result fits the machine. Then what `==`, casts and branches on signed numbers tell. Assumes nothing.
-use mathlib.Core.Path.{_≡_, refl, sym, ap, _∙_, subst}
-use Prim.Native.Nat.{ℕ, zero, suc, _+_, _*_, _^_, _≤_, _<_}
+use mathlib.Core.Path.{_≡_, sym, ap, _∙_}
+use Prim.Native.Nat.{ℕ, suc, _+_, _*_, _^_, _≤_, _<_}
 use native.Mathlib.Omega.{arith}
 use native.Mathlib.Nat.{le-refl}
 use lib.IntN.{ℤ, pos, negsuc, negℤ, natAbs, _+ℤ_, _-ℤ_, _*ℤ_}
@@ -14,7 +14,7 @@ use mir.Val.{SFits, Fits, hbits, bits, toZ, ofZ}
 use mir.Facts.{toZ-ofZ, fits-natAbs}
 use lib.Signed.{nonNeg, yes-nonNeg, pos-natAbs}
 use Rattle.whole.specs.Parts.{posPart, negPart, parts-abs, parts-add, →≡, <→}
-use Rattle.whole.specs.Laws.{abs-*-le, abs-+-le, abs-neg, abs→, →abs}
+use Rattle.whole.specs.Laws.{abs-*-le, abs-+-le, abs-neg}
 
 pub record Within (n : ℕ) (z : ℤ) : Type 0 where
   pub within : natAbs z ≤ n
@@ -58,7 +58,7 @@ bound-back {w} {z} f x = record { bound = x .bound; holds = back-holds (x .bound
 pub eq-holds : {a b : ℤ} (n : ℕ) → a ≡ b → natAbs b ≤ n → natAbs a ≤ n
 eq-holds n e h = rw e h
 
--- to list beside `zb`, for a call's result that is known by an equation: `search (bounds, bound-eq (c .f .ensures))`
+-- to list beside `bounds`, for a call's result that is known by an equation: `search (bounds, bound-eq (c .f .ensures))`
 abbrev pub bound-eq : {a b : ℤ} → a ≡ b → Bound b → Bound a
 bound-eq e x = record { bound = x .bound; holds = eq-holds (x .bound) e (x .holds) }
 

@@ -7,17 +7,16 @@ use mathlib.Core.Bool.{Bool, true, false, not}
 use mathlib.Core.List.{List, [], _∷_}
 use Prim.Native.Nat.{ℕ, zero, suc, _+_, _*_, _^_, _≤_, _<_}
 use native.Mathlib.Omega.{arith}
-use native.Mathlib.Nat.{zero-mul}
 use lib.IntN.{ℤ, pos, negsuc, negℤ, natAbs, _+ℤ_, _-ℤ_, _*ℤ_, +ℤ-idl, +ℤ-idr, *ℤ-zero, zero-*ℤ}
 use lib.Signed.{_≤ℤ_, _<ℤ_, leZ, ltZ, ltZ-no, clashℤ, mag}
 use lib.Dec.{T, leb}
-use mathlib.Core.Logic.{_⊎_, ⊎-elim}
+use mathlib.Core.Logic.{⊎-elim}
 use mir.Syntax.{Width}
 use mir.Val.{SFits, hbits, toZ, ofZ}
 use mir.Facts.{toZ-ofZ}
-use Rattle.whole.specs.Parts.{posPart, negPart, ℤ-rules, ≤→, →≤, <→, →<, ≡→, →≡, parts-add, posPart-mul, negPart-mul, posPart-neg, negPart-neg}
+use Rattle.whole.specs.Parts.{posPart, negPart, ≤→, →≤, <→, →<, ≡→, →≡, parts-add, posPart-mul, negPart-mul, posPart-neg, negPart-neg}
 use Rattle.whole.specs.Small as Z
-use Rattle.whole.specs.Small.{small, #1, #2, #3, #4}
+use Rattle.whole.specs.Small.{small, #1, #3, #4}
 use Rattle.whole.specs.Laws.{*-assoc, *-+, ≤-total}
 
 abbrev pub Poly : List ℤ → Type 0
@@ -322,7 +321,7 @@ back-is ρ {w} {z} p f h = toZ-ofZ f ∙ h
 abbrev pub back : {ρ : List ℤ} {w : Width} {z : ℤ} → SFits w z → IsPolynomial ρ z → IsPolynomial ρ (toZ w (ofZ w z))
 back {ρ} {w} {z} f e = record { poly = e .poly; ok = back-is ρ (e .poly) f (e .ok) }
 
--- the same, to list beside `zr`: `search (ring, value-of ρ (add-result c))`, where `add-result` shows that the sum fits
+-- the same, to list beside `ring`: `search (ring, value-of ρ (add-result c))`, where `add-result` shows that the sum fits
 abbrev pub value-of : (ρ : List ℤ) {w : Width} {z : ℤ} → SFits w z → IsPolynomial ρ z → IsPolynomial ρ (toZ w (ofZ w z))
 value-of ρ f e = back f e
 

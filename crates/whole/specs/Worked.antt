@@ -1,17 +1,17 @@
 -- Worked goals: one of each kind that the solver and the ranges close in a line or two. `docs/PROVING.md` explains them. Assumes nothing.
 use mathlib.Core.Path.{_≡_, refl}
 use mathlib.Core.List.{List, [], _∷_}
-use Prim.Native.Nat.{ℕ, zero, suc, _+_, _*_, _≤_, _<_}
+use Prim.Native.Nat.{ℕ, zero, suc, _*_}
 use native.Mathlib.Omega.{arith}
 use lib.IntN.{ℤ, pos, negsuc, negℤ, _+ℤ_, _-ℤ_, _*ℤ_}
 use lib.ListN.{getD}
 use mir.Syntax.{w64}
 use mir.Val.{SFits}
-use Rattle.whole.specs.Parts.{_⩽_, _≺_, →≤}
+use Rattle.whole.specs.Parts.{_⩽_, _≺_}
 use Rattle.whole.specs.Laws.{sq-nonneg}
 use Rattle.whole.specs.Solver.{⇑, ⇓, ring}
 use Rattle.whole.specs.Ranges.{Within, All, fits, within≤, bounds}
-use Rattle.whole.specs.Floor.{floorDiv, floorMod, floorDiv-low, floorDiv-high, floorDiv-mono, floorDiv-unique, floorDiv-add}
+use Rattle.whole.specs.Floor.{floorDiv, floorMod, floorDiv-high, floorDiv-add}
 
 -- a linear goal: 6 variables, 5 hypotheses
 linear : (a b c d e f : ℤ) → a +ℤ b ⩽ c -ℤ d → c ⩽ e +ℤ pos 7 → pos 2 *ℤ d ⩽ f -ℤ a → negℤ f ⩽ b -ℤ pos 3 → e ≺ a +ℤ d → pos 2 *ℤ a +ℤ b +ℤ pos 3 *ℤ d ≺ e +ℤ pos 2 *ℤ f +ℤ pos 11

@@ -1,11 +1,11 @@
 -- `series::value_at` meets its contract. Assumes nothing.
 use borrow.Author.Needs.{needs}
 use lib.IntN.{ℤ}
-use mathlib.Core.Path.{_≡_, ap, _∙_}
+use mathlib.Core.Path.{ap, _∙_}
 use mir.Facts.{toZ-ofZ}
 use mir.Syntax.{w64}
 use mir.Val.{SFits}
-use Rattle.refusals.specs.Verdict.{Verdict, answered, refused-first, accepted-first, accepted-is, test-refuses, test-passes}
+use Rattle.refusals.specs.Verdict.{answered, refused-first, accepted-first, accepted-is, test-refuses, test-passes}
 use Rattle.series.specs.Acceptance.{valueOf}
 use Rattle.whole.specs.Solver.{lt-no}
 use Rattle.series.proofs.value_at.Statement.{statement}

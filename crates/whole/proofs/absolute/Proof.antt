@@ -1,5 +1,4 @@
 -- `whole::absolute` meets its contract. Assumes nothing.
-use native.Mathlib.Omega.{arith}
 use borrow.Author.Needs.{needs}
 use mir.Facts.{toZ-ofZ, fits-natAbs}
 use Rattle.whole.specs.Solver.{lt-yes, lt-no}

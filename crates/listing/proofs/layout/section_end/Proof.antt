@@ -6,7 +6,7 @@ use lib.IntN.{pos, natAbs}
 use mathlib.Core.Bool.{true}
 use lib.Dec.{ltb}
 use lib.ListN.{length, getD}
-use mathlib.Core.Path.{_≡_, refl, sym, ap, _∙_}
+use mathlib.Core.Path.{_≡_, sym, ap, _∙_}
 use mir.Facts.{toZ-ofZ}
 use mir.Syntax.{w64}
 use mir.Val.{SFits}

@@ -5,7 +5,7 @@ use lib.IntN.{ℤ}
 use lib.ListN.{length, getD}
 use mathlib.Core.Bool.{true, false}
 use mathlib.Core.List.{List}
-use mathlib.Core.Path.{_≡_, refl, sym, ap, subst, _∙_}
+use mathlib.Core.Path.{_≡_, sym, ap, _∙_}
 use native.Mathlib.Omega.{arith}
 use Rattle.clock.proofs.Theorems.{goes-on-holding}
 use Rattle.clock.specs.Clock.{tai}
@@ -14,7 +14,6 @@ use Rattle.listing.specs.Lines.{none, AllHeld}
 use Rattle.listing.specs.Listing.{second}
 use Rattle.listing.specs.Nth as nth
 use Rattle.marks.specs.Listed.{listedMarks}
-use Rattle.marks.specs.Marks.{Mark}
 use Rattle.series.specs.Acceptance.{Accepted}
 use Rattle.series.specs.declared.Body.{Body}
 use Rattle.listing.proofs.lines.all_held.Statement.{statement}

@@ -2,17 +2,16 @@
 use Prim.Native.Nat.{ℕ}
 use borrow.Author.Needs.{needs}
 use lib.Dec.{lit≤}
-use lib.IntN.{ℤ, pos, natAbs}
+use lib.IntN.{ℤ, pos}
 use lib.ListN.{getD}
 use lib.Signed.{_<ℤ_}
 use mathlib.Core.List.{List}
-use mathlib.Core.Path.{_≡_, refl, sym, ap, _∙_}
+use mathlib.Core.Path.{_≡_, ap}
 use mir.Facts.{toZ-ofZ}
 use mir.Syntax.{w64}
 use mir.Val.{SFits}
-use native.Mathlib.Omega.{arith}
 use Rattle.clock.specs.Answers.{utc8}
-use Rattle.clock.specs.Clock.{shownIn, convertible}
+use Rattle.clock.specs.Clock.{shownIn}
 use Rattle.clock.specs.declared.ShownTime.{ShownTime}
 use Rattle.listing.specs.Lines.{none, momentOf, momentLine}
 use Rattle.listing.specs.Listing.{letter, circle, second, lineOf}
@@ -24,8 +23,6 @@ use Rattle.series.specs.declared.Body.the-variants.{Sun, Moon}
 use Rattle.series.specs.declared.Body.{Body}
 use Rattle.text.specs.declared.Moment.{Moment}
 use Rattle.whole.specs.Floor.{floorMod}
-use Rattle.whole.specs.Parts.{→<}
-use Rattle.whole.specs.Ranges.{Within}
 use Rattle.listing.proofs.lines.line_of.Statement.{statement}
 use Rattle.listing.proofs.lines.line_of.Tie as tie
 

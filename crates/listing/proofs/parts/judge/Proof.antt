@@ -1,9 +1,9 @@
 -- `listing::parts::judge` meets its contract. Assumes nothing.
 use borrow.Author.Needs.{needs}
 use borrow.Author.Tests.{not-true, not-false}
-use mathlib.Core.Path.{_≡_, sym, _∙_}
+use mathlib.Core.Path.{sym, _∙_}
 use Rattle.listing.specs.Listing.{linesOf}
-use Rattle.listing.specs.Ready.{inputOf, Ready, lawful-known, sun-early, moon-early}
+use Rattle.listing.specs.Ready.{inputOf, lawful-known, sun-early, moon-early}
 use Rattle.refusals.specs.Verdict.{refused-first, accepted-first, accepted-is}
 use Rattle.listing.proofs.parts.judge.Statement.{statement}
 use Rattle.listing.proofs.parts.judge.Tie as tie

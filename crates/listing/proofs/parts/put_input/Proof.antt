@@ -1,9 +1,8 @@
 -- `listing::parts::put_input` meets its contract. Assumes nothing.
 use borrow.Author.Needs.{needs}
-use mathlib.Core.Path.{_≡_, sym, ap, subst}
-use Rattle.listing.specs.Listing.{linesOf, printed}
-use Rattle.listing.specs.Ready.{inputOf, Judged, Ready, ready-lines}
-use Rattle.refusals.specs.declared.Check.{Check}
+use mathlib.Core.Path.{ap, subst}
+use Rattle.listing.specs.Listing.{printed}
+use Rattle.listing.specs.Ready.{inputOf, Judged, ready-lines}
 use Rattle.listing.proofs.parts.put_input.Statement.{statement}
 use Rattle.listing.proofs.parts.put_input.Tie as tie
 

@@ -1,6 +1,5 @@
 -- `listing::parts::put_only` meets its contract. Assumes nothing.
 use borrow.Author.Needs.{needs}
-use native.Mathlib.Omega.{arith}
 use Rattle.listing.proofs.OneLine.{past, no-room, all-put}
 use Rattle.listing.proofs.parts.put_only.Statement.{statement}
 use Rattle.listing.proofs.parts.put_only.Tie as tie

@@ -1,7 +1,7 @@
 -- `listing::parts::put_words` meets its contract. Assumes nothing.
 use borrow.Author.Needs.{needs}
-use mathlib.Core.Path.{_≡_, sym, ap, _∙_}
-use Rattle.listing.specs.Layout.{places, inputAt, paperPlaces, places-inside}
+use mathlib.Core.Path.{sym, ap, _∙_}
+use Rattle.listing.specs.Layout.{inputAt, paperPlaces, places-inside}
 use Rattle.listing.specs.Listing.{linesOf, linesOfWords, printed}
 use Rattle.refusals.specs.Verdict.{refused-then, answered-then}
 use Rattle.listing.proofs.parts.put_words.Statement.{statement}

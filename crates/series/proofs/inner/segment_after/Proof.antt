@@ -1,5 +1,4 @@
 -- `series::inner::segment_after` meets its contract. Assumes nothing.
-use mathlib.Core.Path.{refl}
 use borrow.Author.Needs.{needs}
 use Rattle.series.proofs.inner.segment_after.Statement.{statement}
 use Rattle.series.proofs.inner.segment_after.Tie as tie

@@ -1,11 +1,11 @@
 -- `series::inner::value` meets its contract: an accepted series has the second's segment, in range, and its place. Assumes nothing.
-use mathlib.Core.Path.{_≡_, refl, sym, ap, _∙_, subst}
+use mathlib.Core.Path.{_≡_, refl, _∙_}
 use mathlib.Core.List.{List}
-use Prim.Native.Nat.{ℕ, _+_, _*_, _-_, _/_, _<_, _≤_}
+use Prim.Native.Nat.{ℕ, _+_, _*_, _/_, _<_, _≤_}
 use native.Mathlib.Omega.{arith}
 use borrow.Author.Needs.{needs}
-use lib.IntN.{ℤ, pos}
-use lib.ListN.{length, take, drop}
+use lib.IntN.{ℤ}
+use lib.ListN.{length}
 use mir.Syntax.{w64}
 use mir.Val.{SFits}
 use mir.Facts.{toZ-ofZ}
@@ -14,7 +14,6 @@ use Rattle.chebyshev.specs.Segment.{InRange, value}
 use Rattle.series.specs.declared.Body.{Body}
 use Rattle.series.specs.Series.{segment, segments, segmentLength, InSpan, placeAfter, valueAt}
 use Rattle.series.specs.Acceptance.{Accepted}
-use Rattle.series.specs.Accepted.{Facts}
 use Rattle.series.specs.Known.{facts, segment-length, part-is-segment}
 use Rattle.series.specs.Span.{place-within, span-short, distance-in-span, segment-in-span}
 use Rattle.series.proofs.inner.value.Statement.{statement}

@@ -1,5 +1,4 @@
 -- `series::judging::last_place` meets its contract. Assumes nothing.
-use mathlib.Core.Path.{refl}
 use borrow.Author.Needs.{needs}
 use Rattle.series.proofs.judging.last_place.Statement.{statement}
 use Rattle.series.proofs.judging.last_place.Tie as tie

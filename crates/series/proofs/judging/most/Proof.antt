@@ -1,6 +1,5 @@
 -- `series::judging::most` meets its contract. Assumes nothing.
 use borrow.Author.Needs.{needs}
-use mathlib.Core.Path.{refl}
 use Rattle.series.proofs.judging.most.Statement.{statement}
 use Rattle.series.proofs.judging.most.Tie as tie
 

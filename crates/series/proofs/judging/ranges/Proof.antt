@@ -1,5 +1,5 @@
 -- `series::judging::ranges` meets its contract: the loop's invariant is that what is left to search gives the verdict. Assumes nothing.
-use mathlib.Core.Path.{_≡_, refl, sym, ap, _∙_}
+use mathlib.Core.Path.{_≡_, sym, ap, _∙_}
 use mathlib.Core.Bool.{true, false}
 use mathlib.Core.List.{List}
 use Prim.Native.Nat.{ℕ, _≤_, _<_, _-_, _%_}
@@ -15,8 +15,6 @@ use Rattle.refusals.specs.Search.{firstBad, perSegment, firstBad-good, firstBad
 use Rattle.series.specs.Acceptance.{outOfRange, limit}
 use Rattle.series.proofs.judging.ranges.Statement.{statement}
 use Rattle.series.proofs.judging.ranges.Tie as tie
-use Rattle.series.proofs.judging.ranges.Reads as reads
-use Rattle.series.proofs.judging.ranges.Lts as lts
 
 larger : (coefs : List ℤ) (i : ℕ) {a b : ℕ} → a ≡ limit (i % 14) → b ≡ natAbs (getD coefs i (pos 0)) → a < b → limit (i % 14) < natAbs (getD coefs i (pos 0))
 larger coefs i {a} {b} p q h = omega arith

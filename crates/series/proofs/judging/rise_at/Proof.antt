@@ -1,6 +1,6 @@
 -- `series::judging::rise_at` meets its contract. Assumes nothing.
 use borrow.Author.Needs.{needs}
-use mathlib.Core.Path.{_≡_, _∙_}
+use mathlib.Core.Path.{_∙_}
 use mir.Facts.{toZ-ofZ}
 use mir.Syntax.{w64}
 use mir.Val.{SFits}
@@ -8,8 +8,7 @@ use Prim.Native.Nat.{_-_}
 use native.Mathlib.Omega.{arith}
 use Rattle.chebyshev.specs.Theorems.{value-bound}
 use Rattle.series.specs.Span.{first-within, last-within}
-use Rattle.series.specs.Accepted.{Ranged}
-use Rattle.whole.specs.Ranges.{Within, fits, bounds}
+use Rattle.whole.specs.Ranges.{fits, bounds}
 use Rattle.series.proofs.judging.rise_at.Statement.{statement}
 use Rattle.series.proofs.judging.rise_at.Tie as tie
 

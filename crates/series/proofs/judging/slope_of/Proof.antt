@@ -5,7 +5,6 @@ use mir.Facts.{toZ-ofZ}
 use mir.Syntax.{w64}
 use mir.Val.{SFits}
 use Rattle.series.specs.Known.{segment-length, part-is-segment}
-use Rattle.series.specs.Accepted.{Ranged}
 use Rattle.series.proofs.judging.slope_of.Statement.{statement}
 use Rattle.series.proofs.judging.slope_of.Tie as tie
 

@@ -1,12 +1,9 @@
 -- `series::judging::slopes` meets its contract: the loop's invariant is that what is left to search gives the verdict. Assumes nothing.
-use Prim.Native.Nat.{_-_, _<_, _≤_}
-use borrow.Author.Needs.{needs}
-use mathlib.Core.Bool.{true, false}
-use mathlib.Core.Path.{_≡_, refl, sym, ap, _∙_}
+use Prim.Native.Nat.{_-_}
+use mathlib.Core.Path.{_≡_, sym, ap, _∙_}
 use native.Mathlib.Omega.{arith}
 use Rattle.refusals.specs.Search.{firstBad, firstBad-good, firstBad-bad, firstBad-end}
 use Rattle.series.specs.Acceptance.{slow}
-use Rattle.series.specs.Accepted.{Ranged}
 use Rattle.series.specs.Series.{segments}
 use Rattle.series.proofs.judging.slopes.Statement.{statement}
 use Rattle.series.proofs.judging.slopes.Tie as tie

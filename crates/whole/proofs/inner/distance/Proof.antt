@@ -1,6 +1,4 @@
 -- `whole::inner::distance` meets its contract. Assumes nothing.
-use mathlib.Core.Path.{_∙_}
-use lib.IntN.{natAbs}
 use mir.Facts.{toZ-ofZ}
 use Rattle.whole.specs.Distance.{difference-fits, difference-casts}
 use Rattle.whole.proofs.inner.distance.Statement.{statement}

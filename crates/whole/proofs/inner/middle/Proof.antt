@@ -2,11 +2,11 @@
 use Prim.Native.Nat.{ℕ, _/_}
 use mathlib.Core.Path.{_≡_, ap, _∙_}
 use borrow.Author.Needs.{needs}
-use lib.IntN.{pos, _+ℤ_}
+use lib.IntN.{pos}
 use mir.Syntax.{w64}
 use mir.Val.{SFits}
 use mir.Facts.{toZ-ofZ}
-use Rattle.whole.specs.Distance.{distanceFrom, halfWay, halfWay-low, halfWay-high, between-fits}
+use Rattle.whole.specs.Distance.{distanceFrom, halfWay-low, halfWay-high, between-fits}
 use Rattle.whole.proofs.inner.middle.Statement.{statement}
 use Rattle.whole.proofs.inner.middle.Tie as tie
 

@@ -1,6 +1,6 @@
 -- `words::inner::below_zero` meets its contract. Assumes nothing.
 use borrow.Author.Needs.{needs}
-use lib.IntN.{ℤ, pos, negsuc, _-ℤ_}
+use lib.IntN.{ℤ, negsuc, _-ℤ_}
 use mathlib.Core.Path.{_≡_, sym, ap, subst, _∙_}
 use mir.Facts.{toZ-ofZ}
 use mir.Syntax.{w64}

@@ -1,0 +1,159 @@
+#!/usr/bin/env python3
+"""An independent listing, by plain bisection over whole numbers of any size, to compare the proved program with.
+
+reference.py FILE          prints the listing of an input
+reference.py --random N    compares target/bin/list with it on N random inputs, lawful and damaged (a fixed seed)
+"""
+import datetime
+import random
+import struct
+import subprocess
+import sys
+
+S = 66355200
+BODIES = (('S', 1382400, 540000000, 2000, 24), ('M', 172800, 3240000000, 16000, 4))
+
+
+class Refused(Exception):
+    pass
+
+
+def value(c, x):
+    before, here, total = S, x, c[1] * x
+    for n in range(2, 14):
+        before, here = here, 2 * x * here // S - before
+        total += c[n] * here
+    return c[0] + total // S
+
+
+def sections(data):
+    """The leap words and the two series, or 13."""
+    if len(data) > 65536 or len(data) % 8:
+        raise Refused(13)
+    words = struct.unpack('<%dq' % (len(data) // 8), data)
+    at, found = 0, []
+    for extra, width in ((0, 2), (1, 14), (1, 14)):
+        if at >= len(words) or words[at] < 0 or at + 1 + extra + width * words[at] > len(words):
+            raise Refused(13)
+        end = at + 1 + extra + width * words[at]
+        found.append(words[at + 1:end])
+        at = end
+    if at < len(words):
+        raise Refused(13)
+    return found[0], (found[1][0], found[1][1:]), (found[2][0], found[2][1:])
+
+
+def judge_leap(words):
+    entries = list(zip(words[::2], words[1::2]))
+    if not 1 <= len(entries) <= 64 or not 0 <= entries[0][1] <= 1000:
+        raise Refused(1)
+    for i, (day, offset) in enumerate(entries):
+        if not -120000 <= day <= 100000:
+            raise Refused(1)
+        if i and not (entries[i - 1][0] < day and offset == entries[i - 1][1] + 1):
+            raise Refused(1)
+    return entries
+
+
+def judge(series, half, most):
+    start, words = series
+    count = len(words) // 14
+    if not 1 <= count <= most or abs(start) > 10 ** 10:
+        raise Refused(2)
+    cs = [words[14 * k:14 * k + 14] for k in range(count)]
+    if any(abs(c[0]) > 10 ** 15 or any(abs(x) > 4 * 10 ** 9 for x in c[1:]) for c in cs):
+        raise Refused(3)
+    if any(c[1] - sum(n * n * abs(c[n]) for n in range(2, 14)) < 100 * half for c in cs):
+        raise Refused(4)
+    for a, b in zip(cs, cs[1:]):
+        if not 200 <= value(b, -S) - value(a, S - S // half) <= 100000:
+            raise Refused(5)
+    return cs
+
+
+def marks(start, cs, half, mark):
+    def at(s):
+        k, i = divmod(s - start, 2 * half)
+        return value(cs[k], S // half * (i - half))
+    first, last = start, start + 2 * half * len(cs) - 1
+    for j in range(at(first) // mark + 1, at(last) // mark + 1):
+        low, high = first, last
+        while high - low > 1:
+            middle = (low + high) // 2
+            low, high = (low, middle) if at(middle) >= j * mark else (middle, high)
+        yield j, high
+
+
+def listing(data):
+    try:
+        leap, sun, moon = sections(data)
+        entries = judge_leap(leap)
+        judged = [judge(series, b[1], b[3]) for series, b in zip((sun, moon), BODIES)]
+        lines = []
+        for series, cs, (letter, half, mark, _, circle) in zip((sun, moon), judged, BODIES):
+            for j, s in marks(series[0], cs, half, mark):
+                tai = 1000 * s - 32184
+                held = [o for d, o in entries if 1000 * (86400 * d + o) <= tai]
+                if not held:
+                    raise Refused(7)
+                t = datetime.datetime(2000, 1, 1) + datetime.timedelta(milliseconds=tai - 1000 * held[-1] + 28800000)
+                lines.append('%s %d %s.%03d\n' % (letter, j % circle, t.strftime('%Y-%m-%d %H:%M:%S'), t.microsecond // 1000))
+        return ''.join(lines).encode()
+    except Refused as r:
+        return b'R %d\n' % r.args
+
+
+def random_series(rng, half, most):
+    """Segments that rise and join, now and then damaged."""
+    cs, level = [], rng.randint(-10 ** 13, 10 ** 13)
+    for k in range(rng.choice((1, 1, 2, 3, 6))):
+        small = [0, 0] + [rng.choice((0, rng.randint(-30000, 30000))) // (n * n) for n in range(2, 14)]
+        weight = sum(n * n * abs(small[n]) for n in range(2, 14))
+        c = small[:]
+        c[1] = rng.randint(100 * half + weight, 4 * 10 ** 9) if rng.random() < 0.9 else 100 * half + weight - rng.randint(0, 1)
+        c[0] = 0
+        c[0] = level - value(c, -S)
+        cs.append(c)
+        level = value(c, S - S // half) + (rng.randint(200, 100000) if rng.random() < 0.95 else rng.choice((199, 200, 100000, 100001)))
+    if rng.random() < 0.05:
+        cs[rng.randrange(len(cs))][rng.randrange(14)] = rng.choice((4 * 10 ** 9, 4 * 10 ** 9 + 1, -2 ** 63, 2 ** 63 - 1, 10 ** 15, 10 ** 15 + 1))
+    start = rng.choice((rng.randint(-10 ** 10, 10 ** 10), rng.randint(-10 ** 9, 10 ** 9), -10 ** 10, 10 ** 10, 10 ** 10 + 1))
+    return [len(cs), start] + [x for c in cs for x in c]
+
+
+def random_input(rng):
+    day, offset, leap = rng.randint(-120000, 5000), rng.randint(0, 40), []
+    for _ in range(rng.choice((1, 2, 10, 28, 64))):
+        leap += [day, offset]
+        day, offset = day + rng.randint(1, 900), offset + 1
+    if rng.random() < 0.05:
+        leap[rng.randrange(len(leap))] += rng.choice((-1, 1, 10 ** 9))
+    words = [len(leap) // 2] + leap + random_series(rng, 1382400, 2000) + random_series(rng, 172800, 16000)
+    if rng.random() < 0.05:
+        words[rng.choice((0, 1 + len(leap)))] = rng.choice((-1, 0, 1, 2 ** 62, 2 ** 63 - 1, -2 ** 63))
+    data = struct.pack('<%dq' % len(words), *words)
+    if rng.random() < 0.05:
+        data = data[:rng.randrange(len(data))]
+    return data
+
+
+def main():
+    if sys.argv[1:2] == ['--random'] and len(sys.argv) == 3:
+        rng, seen = random.Random(2000), {}
+        for i in range(int(sys.argv[2])):
+            data = random_input(rng)
+            got = subprocess.run(['target/bin/list'], input=data, stdout=subprocess.PIPE, check=True).stdout
+            expected = listing(data)
+            if got != expected:
+                open('target/differs.in', 'wb').write(data)
+                sys.exit('input %d differs; it is kept in target/differs.in' % i)
+            kind = expected.decode().strip() if expected.startswith(b'R') else 'listed'
+            seen[kind] = seen.get(kind, 0) + 1
+        print('all the same:', ', '.join('%s %d' % x for x in sorted(seen.items())))
+    elif len(sys.argv) == 2:
+        sys.stdout.buffer.write(listing(open(sys.argv[1], 'rb').read()))
+    else:
+        sys.exit(__doc__)
+
+
+main()
