@@ -21,14 +21,17 @@ pub fn mark_size(body: Body) -> i64
     }
 }
 
-// How many marks the value at a second has reached.
+// How many marks the value at a second has reached. Each body divides by a constant.
 pub fn index_at(body: Body, start: Second, coefs: &[i64], second: Second) -> i64
     requires { ⌜ Accepted body (start .0) (now coefs) ⌝ }
     requires { ⌜ InSpan body (start .0) (now coefs) (second .0) ⌝ }
     ensures { λ r. ⌜ r ≡ reachedAt body (start .0) (now (coefs .entry)) (second .0) ⌝ }
 {
     let value = series::inner::value(body, start, coefs, second);
-    whole::inner::floor_div(value, mark_size(body))
+    match body {
+        Body::Sun => whole::inner::floor_div(value, 540000000),
+        Body::Moon => whole::inner::floor_div(value, 3240000000),
+    }
 }
 
 // The same at the first second of the span. A mark is listed when its index is larger ..
