@@ -1,5 +1,8 @@
 // Where the locator looks next. Any second strictly inside a stretch keeps its proof, so what is promised here is only that.
-ghost use Prim.Native.Nat.{_^_, _≤_, _<_};
+ghost use mathlib.Core.Path.{_≡_};
+ghost use mathlib.Core.Bool.{not, _&&_};
+ghost use Prim.Native.Nat.{_^_, _/_, _≤_, _<_};
+ghost use lib.Dec.{ltb};
 
 // A place strictly inside n: a / b of the way, or, where that is close to one end, twice as far from that end, so that the next stretch is short.
 fn proportional(a: usize, b: usize, n: usize) -> usize
@@ -32,9 +35,11 @@ pub fn place(halve: bool, a: usize, b: usize, n: usize) -> usize
 }
 
 // Whether to halve next: after a guess that left more than half, so that two steps together always halve.
-pub fn halve_next(halved: bool, before: usize, after: usize) -> bool {
+pub fn halve_next(halved: bool, left: usize, rest: usize) -> bool
+    ensures { λ r. ⌜ r ≡ not halved && ltb (left / 2) rest ⌝ }
+{
     if halved {
         return false;
     }
-    before / 2 < after
+    left / 2 < rest
 }
