@@ -1,22 +1,13 @@
 -- Worked values of a segment, one list checked by computation: first document 01's, at a segment's beginning and middle, then where rounding
 -- shows, then slope and exact sum. Assumes nothing.
-use mathlib.Core.Bool.{Bool, true, false, _&&_}
+use mathlib.Core.Bool.{Bool}
 use mathlib.Core.List.{List, [], _∷_}
-use lib.Dec.{T, eqb}
+use lib.Dec.{T}
 use lib.IntN.{ℤ, pos, negsuc, negℤ, _*ℤ_}
 use Rattle.whole.specs.Floor.{floorDiv}
+use Rattle.whole.specs.Evaluated.{same, all}
 use Rattle.chebyshev.specs.Polynomials.{S, P, Q}
 use Rattle.chebyshev.specs.Segment.{sum, value, exact, divisor, slope}
-
-abbrev pub same : ℤ → ℤ → Bool
-same (pos a) (pos b) = eqb a b
-same (pos a) (negsuc b) = false
-same (negsuc a) (pos b) = false
-same (negsuc a) (negsuc b) = eqb a b
-
-abbrev pub all : List Bool → Bool
-all [] = true
-all (b ∷ bs) = b && all bs
 
 -- the Sun series of document 01
 abbrev even : List ℤ

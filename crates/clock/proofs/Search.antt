@@ -1,19 +1,12 @@
 -- Laws of `every` and `last`. Assumes nothing.
 use Prim.Native.Nat.{ℕ, zero, suc, _<_}
 use mathlib.Core.Path.{_≡_, refl, sym, ap, _∙_}
-use mathlib.Core.Bool.{Bool, true, false, cond, _&&_}
+use mathlib.Core.Bool.{Bool, true, false, cond}
 use native.Mathlib.Omega.{arith}
 use native.Mathlib.Decide.{decLt}
+use Rattle.whole.specs.Booleans.{both, second-fails}
 use Rattle.refusals.specs.Verdict.{answered, refused}
 use Rattle.clock.specs.Leap.{every, last}
-
-pub both : (a b : Bool) → (a && b) ≡ true → (a ≡ true) × (b ≡ true)
-both true b e = (refl, e)
-both false b e = let one : _≡_ {A = ℕ} 0 1 = cc in absurd (omega arith)
-
-pub either : (a b : Bool) → b ≡ false → (a && b) ≡ false
-either true b e = e
-either false b e = refl
 
 -- below n + 1 is below n, or n
 pub below : {X : Type 0} (i n : ℕ) → i < suc n → (i < n → X) → (i ≡ n → X) → X
@@ -32,7 +25,7 @@ module _ (f : ℕ → Bool) where
   pub every-false : (n i : ℕ) → i < n → f i ≡ false → every f n ≡ false
   unfolding every
   every-false zero i h e = absurd (omega arith)
-  every-false (suc n) i h e = below i n h (λ l. either (f n) (every f n) (every-false n i l e)) (λ q. rw (ap f (sym q) ∙ e))
+  every-false (suc n) i h e = below i n h (λ l. second-fails (f n) (every f n) (every-false n i l e)) (λ q. rw (ap f (sym q) ∙ e))
 
   pub every-at : (n : ℕ) → every f n ≡ true → (i : ℕ) → i < n → f i ≡ true
   unfolding every

@@ -16,7 +16,8 @@ use Rattle.clock.specs.declared.Milli.{Milli}
 use Rattle.clock.specs.declared.Second.{Second}
 use Rattle.clock.specs.Leap.{lawful, entries, offset, holds, entryUsed}
 use Rattle.clock.specs.Clock.{convertible, tai, localMilli, milliIn, dayOfMilli}
-use Rattle.clock.proofs.Search.{both, Last}
+use Rattle.whole.specs.Booleans.{both}
+use Rattle.clock.proofs.Search.{Last}
 use Rattle.clock.proofs.Table.{offset-small}
 use Rattle.clock.proofs.Used.{used-says}
 

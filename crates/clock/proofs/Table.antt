@@ -14,7 +14,8 @@ use Rattle.whole.specs.Laws.{≤-antisymm, ≤-trans, <→≤}
 use Rattle.whole.specs.Ranges.{Within}
 use Rattle.whole.specs.Solver.{⇑, ⇓, ring, lt-yes, le-yes}
 use Rattle.clock.specs.Leap.{between, utcDay, day, offset, firstEntry, nextEntry, goodEntry, every, lawful, entries, holdsFrom}
-use Rattle.clock.proofs.Search.{both, every-at}
+use Rattle.whole.specs.Booleans.{both}
+use Rattle.clock.proofs.Search.{every-at}
 
 range : (low high z : ℤ) → between low high z ≡ true → (low ⩽ z) × (z ⩽ high)
 range low high z e = let b = both (leZ low z) (leZ z high) e in (le-yes {a = low} {b = z} (b .0), le-yes {a = z} {b = high} (b .1))

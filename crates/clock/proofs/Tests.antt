@@ -15,7 +15,8 @@ use Rattle.whole.specs.Parts.{_⩽_, _≺_}
 use Rattle.whole.specs.Solver.{⇑, ⇓, ring, lt-yes, lt-no, le-yes, le-no, yes-lt, no-lt}
 use Rattle.dates.proofs.Tests.{at-most, above}
 use Rattle.clock.specs.Leap.{between, utcDay, firstEntry, nextEntry, goodEntry, every, lawful, entries}
-use Rattle.clock.proofs.Search.{either, every-true, every-false}
+use Rattle.whole.specs.Booleans.{second-fails}
+use Rattle.clock.proofs.Search.{every-true, every-false}
 
 -- ---- a conjunction, told from the left
 pub left : (a b : Bool) → a ≡ false → false ≡ (a && b)
@@ -98,15 +99,15 @@ module _ (w : List ℤ) where
 
   pub empty : length w < 2 → false ≡ lawful w
   unfolding lawful
-  empty h = sym (either (eqb (length w % 2) 0) (leb 2 (length w) && (leb (length w) 128 && every (goodEntry w) (entries w))) (sym (left (leb 2 (length w)) (leb (length w) 128 && every (goodEntry w) (entries w)) (lt-leb 2 (length w) h))))
+  empty h = sym (second-fails (eqb (length w % 2) 0) (leb 2 (length w) && (leb (length w) 128 && every (goodEntry w) (entries w))) (sym (left (leb 2 (length w)) (leb (length w) 128 && every (goodEntry w) (entries w)) (lt-leb 2 (length w) h))))
 
   pub too-long : 128 < length w → false ≡ lawful w
   unfolding lawful
-  too-long h = sym (either (eqb (length w % 2) 0) (leb 2 (length w) && (leb (length w) 128 && every (goodEntry w) (entries w))) (either (leb 2 (length w)) (leb (length w) 128 && every (goodEntry w) (entries w)) (sym (left (leb (length w) 128) (every (goodEntry w) (entries w)) (lt-leb (length w) 128 h)))))
+  too-long h = sym (second-fails (eqb (length w % 2) 0) (leb 2 (length w) && (leb (length w) 128 && every (goodEntry w) (entries w))) (second-fails (leb 2 (length w)) (leb (length w) 128 && every (goodEntry w) (entries w)) (sym (left (leb (length w) 128) (every (goodEntry w) (entries w)) (lt-leb (length w) 128 h)))))
 
   pub bad-entry : (i : ℕ) → i < entries w → false ≡ goodEntry w i → false ≡ lawful w
   unfolding lawful
-  bad-entry i h e = sym (either (eqb (length w % 2) 0) (leb 2 (length w) && (leb (length w) 128 && every (goodEntry w) (entries w))) (either (leb 2 (length w)) (leb (length w) 128 && every (goodEntry w) (entries w)) (either (leb (length w) 128) (every (goodEntry w) (entries w)) (every-false (goodEntry w) (entries w) i h (sym e)))))
+  bad-entry i h e = sym (second-fails (eqb (length w % 2) 0) (leb 2 (length w) && (leb (length w) 128 && every (goodEntry w) (entries w))) (second-fails (leb 2 (length w)) (leb (length w) 128 && every (goodEntry w) (entries w)) (second-fails (leb (length w) 128) (every (goodEntry w) (entries w)) (every-false (goodEntry w) (entries w) i h (sym e)))))
 
   pub all-good : length w % 2 ≤ 0 → 2 ≤ length w → length w ≤ 128 → ((i : ℕ) → i < entries w → goodEntry w i ≡ true) → true ≡ lawful w
   unfolding lawful

@@ -1,11 +1,12 @@
 -- Document 01's starred example of the clock, and refusals beside it, each a computed fact, and all of them checked at once. Assumes nothing.
 use Prim.Native.Nat.{ℕ, zero, suc, _^_, _-_}
-use mathlib.Core.Bool.{Bool, true, false, _&&_}
+use mathlib.Core.Bool.{Bool, false, _&&_}
 use mathlib.Core.List.{List, [], _∷_}
-use lib.Dec.{T, eqb}
+use lib.Dec.{T}
 use lib.IntN.{ℤ, pos, negsuc}
-use lib.Signed.{leZ}
 use Rattle.refusals.specs.Verdict.{Verdict, answered, refused}
+use Rattle.refusals.specs.Evaluated.{isAccepted, isRefused}
+use Rattle.whole.specs.Evaluated.{same, all}
 use Rattle.whole.specs.Floor.{floorDiv, floorMod}
 use Rattle.dates.specs.declared.Day.{Day}
 use Rattle.dates.specs.Calendar.{leapYear, leapYearsTo, newYear, monthLengths, guess, yearOf, monthsOver, dateInYear, dateFor}
@@ -15,9 +16,6 @@ use Rattle.clock.specs.declared.ShownTime.{ShownTime}
 use Rattle.clock.specs.Leap.{firstEntry, nextEntry, goodEntry, every, lawful, holdsFrom, holds, last, entryUsed}
 use Rattle.clock.specs.Clock.{convertible, tai, localMilli, milliIn, dayOfMilli, shownOfMilli, dayIn, shownIn}
 use Rattle.clock.specs.Answers.{leapJudged, judged, milliOf, dayOfSecond, shownOf}
-
-abbrev same : ℤ → ℤ → Bool
-same a b = leZ a b && leZ b a
 
 abbrev second : ℤ → Second
 second s = record { 0 = s }
@@ -38,14 +36,6 @@ isShown (answered t) y m d hour minute s milli =
     && (same (t .hour) (pos hour) && (same (t .minute) (pos minute) && (same (t .second) (pos s) && same (t .millisecond) (pos milli))))))
 isShown (refused number segment) y m d hour minute s milli = false
 
-abbrev isRefused : {A : Type 0} → Verdict A → ℕ → Bool
-isRefused (answered a) k = false
-isRefused (refused number segment) k = eqb number k && eqb segment 0
-
-abbrev isAccepted : {A : Type 0} → Verdict A → Bool
-isAccepted (answered a) = true
-isAccepted (refused number segment) = false
-
 -- n entries, one a day from day d on
 abbrev daily : ℕ → ℕ → List ℤ
 daily zero d = []
@@ -57,10 +47,6 @@ table = negsuc 364 ∷ pos 32 ∷ []
 -- and a second inserted before 2006-01-01
 abbrev longer : List ℤ
 longer = negsuc 364 ∷ pos 32 ∷ pos 2192 ∷ pos 33 ∷ []
-
-abbrev all : List Bool → Bool
-all [] = true
-all (b ∷ bs) = b && all bs
 
 unfoldable pub examples : List Bool
 unfolding leapYear leapYearsTo newYear monthLengths guess yearOf monthsOver dateInYear dateFor floorDiv floorMod firstEntry nextEntry goodEntry every lawful holdsFrom holds last entryUsed convertible tai localMilli milliIn dayOfMilli shownOfMilli dayIn shownIn leapJudged judged milliOf dayOfSecond shownOf

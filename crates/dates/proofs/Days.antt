@@ -7,6 +7,7 @@ use lib.IntN.{ℤ, pos, negsuc, natAbs, _+ℤ_, _-ℤ_}
 use lib.Signed.{leZ, _≤ℤ_}
 use lib.ListN.{length, getD, take}
 use native.Mathlib.Omega.{arith}
+use Rattle.whole.specs.Booleans.{both}
 use Rattle.whole.specs.Parts.{ℤ-rules, ≤→, ≡→, _⩽_, _≺_}
 use Rattle.whole.specs.Laws.{abs-of-nonneg}
 use Rattle.whole.specs.Solver.{⇑, ⇓, ring, le-yes, yes-le}
@@ -21,13 +22,6 @@ pub record Valid (y m d : ℤ) : Type 0 where
   pub month-to : m ⩽ pos 12
   pub day-from : pos 1 ⩽ d
   pub day-to : d ⩽ pos (monthLength y m)
-
-pub both : (a b : Bool) → (a && b) ≡ true → (a ≡ true) × (b ≡ true)
-both true b e = (refl, e)
-both false b e = (e, absurd-eq e)
-  where
-    absurd-eq : false ≡ true → b ≡ true
-    absurd-eq e = let one : _≡_ {A = ℕ} 0 1 = cc in absurd (omega arith)
 
 pub valid-says : (y m d : ℤ) → validDate y m d ≡ true → Valid y m d
 unfolding validDate

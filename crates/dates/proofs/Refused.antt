@@ -1,12 +1,13 @@
 -- When the two entry points refuse, from the tests that their code makes. Assumes nothing.
 use Prim.Native.Nat.{_+_}
 use mathlib.Core.Path.{_≡_, refl, sym, ap, _∙_}
-use mathlib.Core.Bool.{Bool, true, false, _&&_}
+use mathlib.Core.Bool.{Bool, true, false}
 use mathlib.Core.List.{[], _∷_}
 use lib.IntN.{pos, negsuc, _+ℤ_}
 use lib.Signed.{leZ, ltZ}
 use lib.ListN.{take}
 use native.Mathlib.Omega.{arith}
+use Rattle.whole.specs.Booleans.{second-fails}
 use Rattle.whole.specs.Parts.{_⩽_, _≺_}
 use Rattle.whole.specs.Solver.{⇑, ⇓, ring, lt-yes, no-le}
 use Rattle.whole.specs.Floor.{floorDiv}
@@ -17,10 +18,6 @@ use Rattle.dates.specs.Calendar.{leapYearsTo, newYear, lengthsIn, sum, y
 use Rattle.dates.specs.Answers.{hasDate, dateOf, dayOf}
 use Rattle.dates.proofs.Years.{next-year, in-order}
 use Rattle.dates.proofs.Days.{placed, number-at, place-within}
-
-neither : (a b : Bool) → b ≡ false → (a && b) ≡ false
-neither true b e = e
-neither false b e = refl
 
 -- ---- the date of a day
 pub date-refused : (n : Day) → hasDate (n .0) ≡ false → refused 6 0 ≡ dateOf n
@@ -38,7 +35,7 @@ no-date d e = rw e
 
 pub no-day : (d : Date) → hasDate (dayNumber d) ≡ false → refused 6 0 ≡ dayOf d
 unfolding dayOf
-no-day d e = rw (neither (valid d) (hasDate (dayNumber d)) e)
+no-day d e = rw (second-fails (valid d) (hasDate (dayNumber d)) e)
 
 pub day-found : (d : Date) (n : Day) → valid d ≡ true → hasDate (n .0) ≡ true → n .0 ≡ dayNumber d → answered n ≡ dayOf d
 unfolding dayOf
@@ -94,7 +91,7 @@ late d v t =
     let σ = newYear y ∷ n ∷ [] in
     let h : pos 200000 ≺ n = ⇑ σ (search ring) (omega (arith, ⇓ σ (rw year-2601 at o) (search ring), ⇓ σ (in-its-year d v .0) (search ring))) in
     let e : leZ n (pos 200000) ≡ false = no-le h in
-    neither (leZ (negsuc 149999) n) (leZ n (pos 200000)) e
+    second-fails (leZ (negsuc 149999) n) (leZ n (pos 200000)) e
 
 -- a year before 1500 or after 2600
 pub too-early : (d : Date) → ltZ (d .year) (pos 1500) ≡ true → refused 6 0 ≡ dayOf d

@@ -15,7 +15,8 @@ use Rattle.whole.specs.Floor.{bound-floor}
 use Rattle.dates.specs.Calendar.{leapYear, newYear, monthLengths, lengthsIn, sum, yearLength, guess, yearOf, monthLength, daysBefore}
 use Rattle.dates.specs.Answers.{hasDate}
 use Rattle.dates.proofs.Months.{take-below}
-use Rattle.dates.proofs.Days.{both, Valid}
+use Rattle.whole.specs.Booleans.{both}
+use Rattle.dates.proofs.Days.{Valid}
 
 -- ---- months
 lengths-sum : (leap : Bool) → sum (monthLengths leap) < 400

@@ -1,19 +1,17 @@
 -- Document 01's starred examples of dates, each a computed fact, and all of them checked at once. Assumes nothing.
 use Prim.Native.Nat.{ℕ}
-use mathlib.Core.Bool.{Bool, true, false, _&&_}
+use mathlib.Core.Bool.{Bool, false, _&&_}
 use mathlib.Core.List.{List, [], _∷_}
-use lib.Dec.{T, eqb}
+use lib.Dec.{T}
 use lib.IntN.{ℤ, pos, negsuc}
-use lib.Signed.{leZ}
 use Rattle.refusals.specs.Verdict.{Verdict, answered, refused}
+use Rattle.refusals.specs.Evaluated.{isRefused}
+use Rattle.whole.specs.Evaluated.{same, all}
 use Rattle.whole.specs.Floor.{floorDiv, floorMod}
 use Rattle.dates.specs.declared.Date.{Date}
 use Rattle.dates.specs.declared.Day.{Day}
 use Rattle.dates.specs.Calendar.{leapYear, leapYearsTo, newYear, monthLengths, monthLength, daysBefore, validDate, numberOf, guess, yearOf, monthsOver, dateInYear, dateFor}
 use Rattle.dates.specs.Answers.{hasDate, dateOf, dayOf}
-
-abbrev same : ℤ → ℤ → Bool
-same a b = leZ a b && leZ b a
 
 abbrev isDate : Verdict Date → ℤ → ℤ → ℤ → Bool
 isDate (answered d) y m k = same (d .year) y && (same (d .month) m && same (d .day) k)
@@ -23,19 +21,11 @@ abbrev isDay : Verdict Day → ℤ → Bool
 isDay (answered n) z = same (n .0) z
 isDay (refused number segment) z = false
 
-abbrev isRefused : {A : Type 0} → Verdict A → ℕ → Bool
-isRefused (answered a) k = false
-isRefused (refused number segment) k = eqb number k && eqb segment 0
-
 abbrev day : ℤ → Day
 day n = record { 0 = n }
 
 abbrev date : ℕ → ℕ → ℕ → Date
 date y m d = record { year = pos y; month = pos m; day = pos d }
-
-abbrev all : List Bool → Bool
-all [] = true
-all (b ∷ bs) = b && all bs
 
 unfoldable pub examples : List Bool
 unfolding leapYear leapYearsTo newYear monthLengths monthLength daysBefore validDate numberOf guess yearOf monthsOver dateInYear dateFor hasDate dateOf dayOf floorDiv floorMod

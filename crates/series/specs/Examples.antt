@@ -1,15 +1,16 @@
 -- Document 01's starred examples of a series, evaluated. Assumes nothing.
-use mathlib.Core.Bool.{Bool, true, false, _&&_}
+use mathlib.Core.Bool.{Bool, false}
 use mathlib.Core.List.{List, [], _∷_, _++_}
 use Prim.Native.Nat.{ℕ}
-use lib.Dec.{T, eqb}
+use lib.Dec.{T}
 use lib.IntN.{ℤ, pos}
 use Rattle.whole.specs.Floor.{floorDiv}
 use Rattle.refusals.specs.Verdict.{Verdict, answered, refused}
 use Rattle.refusals.specs.Search.{firstBad}
+use Rattle.refusals.specs.Evaluated.{isAccepted, isRefusedAt}
+use Rattle.whole.specs.Evaluated.{same, all}
 use Rattle.chebyshev.specs.Polynomials.{P}
 use Rattle.chebyshev.specs.Segment.{sum, value, slope}
-use Rattle.chebyshev.specs.Examples.{same, all}
 use Rattle.series.specs.declared.Body.the-variants.{Sun}
 use Rattle.series.specs.Series.{valueAt}
 use Rattle.series.specs.Acceptance.{judged, valueOf}
@@ -25,14 +26,6 @@ sun = segment (pos 552960000) (pos 552960000) (pos 0)
 abbrev joined : ℕ → List ℤ
 joined c0 = sun ++ segment (pos c0) (pos 552960000) (pos 0)
 
-abbrev isAccepted : Verdict (Unit {0}) → Bool
-isAccepted (answered a) = true
-isAccepted (refused number segment) = false
-
-abbrev isRefused : ℕ → ℕ → Verdict (Unit {0}) → Bool
-isRefused n k (answered a) = false
-isRefused n k (refused number segment) = eqb n number && eqb k segment
-
 abbrev isValue : ℤ → Verdict ℤ → Bool
 isValue z (answered v) = same z v
 isValue z (refused number segment) = false
@@ -45,11 +38,11 @@ examples =
     ∷ isValue (pos 1000) (valueOf Sun (pos 0) (segment (pos 552960000) (pos 552960000) (pos 1000)) (pos 0))
     ∷ isValue (pos 552959000) (valueOf Sun (pos 0) (segment (pos 552960000) (pos 552960000) (pos 1000)) (pos 1382400))
     ∷ isAccepted (judged Sun (pos 0) (segment (pos 0) (pos 138240000) (pos 0)))
-    ∷ isRefused 4 0 (judged Sun (pos 0) (segment (pos 0) (pos 138239999) (pos 0)))
-    ∷ isRefused 3 0 (judged Sun (pos 0) (segment (pos 0) (pos 4000000001) (pos 0)))
+    ∷ isRefusedAt (judged Sun (pos 0) (segment (pos 0) (pos 138239999) (pos 0))) 4 0
+    ∷ isRefusedAt (judged Sun (pos 0) (segment (pos 0) (pos 4000000001) (pos 0))) 3 0
     ∷ isAccepted (judged Sun (pos 0) (joined 1658880000))
     ∷ isAccepted (judged Sun (pos 0) (joined 1658879800))
-    ∷ isRefused 5 1 (judged Sun (pos 0) (joined 1658879799))
+    ∷ isRefusedAt (judged Sun (pos 0) (joined 1658879799)) 5 1
     ∷ []
 
 pub examples-hold : T (all examples)

@@ -7,3 +7,5 @@ pub mod Floor
 pub mod Division
 pub mod Distance
 pub mod Worked
+pub mod Booleans
+pub mod Evaluated

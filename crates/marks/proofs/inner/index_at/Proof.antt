@@ -1,5 +1,5 @@
 -- `marks::inner::index_at` meets its contract. Assumes nothing.
-use mathlib.Core.Path.{_≡_, sym, ap, _∙_}
+use mathlib.Core.Path.{sym, ap, _∙_}
 use borrow.Author.Needs.{needs}
 use Rattle.whole.specs.Floor.{floorDiv}
 use Rattle.series.specs.declared.Body.{Body}

@@ -1,0 +1,330 @@
+/* Times the proved finder and the proved locator beside the same algorithms in C, in one run, over whole series, best of several rounds: acceptance alone,
+   acceptance and the list of every mark, acceptance and the second of every mark by its index. Fails where an answer or a word differs. Then counts, in
+   the C ports, evaluations a mark, how deep the finder's calls nest, and what plain bisection asks; on made series too, whose rates are as uneven as
+   acceptance lets them be.
+   Arguments: a file of the Sun's series, then one of the Moon's: 64-bit words, how many segments, the start, fourteen coefficients a segment. */
+
+/* Declared here and not included, so that a compiler without headers takes it (x86-64 Linux). */
+typedef long int64_t;
+typedef unsigned long uint64_t;
+typedef unsigned long size_t;
+typedef _Bool bool;
+struct timespec { long tv_sec, tv_nsec; };
+int clock_gettime(int, struct timespec *);
+int printf(const char *, ...);
+int open(const char *, int, ...);
+long read(int, void *, size_t);
+int close(int);
+#define CLOCK_MONOTONIC 1
+
+#define SCALE 66355200
+#define MOST_WORDS 224002
+#define MOST_MARKS 40000
+#ifndef ROUNDS
+#define ROUNDS 100
+#endif
+
+/* the proved library */
+int64_t marks_list(bool moon, int64_t start, const int64_t *coefs, size_t count, int64_t *out, size_t room);
+int64_t marks_locate(bool moon, int64_t start, const int64_t *coefs, size_t count, int64_t *out, size_t room);
+
+/* How often the counted ports evaluate. */
+static size_t evaluations, depth, deepest;
+#define NOTHING
+#define COUNTED evaluations++;
+
+static inline int64_t same_step(int64_t t) {
+    return (int64_t)((uint64_t)(t + 17812088369971200) / SCALE) - 268435456;
+}
+
+static inline int64_t same_sum(int64_t t) {
+    return (int64_t)((uint64_t)(t + 4611686400000000000) / SCALE) - 69500000000;
+}
+
+static inline int64_t segment_value(int64_t x, const int64_t *c) {
+    int64_t before = SCALE, here = x, sum = c[1] * x;
+    for (size_t n = 2; n < 14; n++) {
+        int64_t after = same_step(2 * x * here) - before;
+        before = here;
+        here = after;
+        sum += c[n] * here;
+    }
+    return c[0] + same_sum(sum);
+}
+
+static inline uint64_t absolute(int64_t a) {
+    return a < 0 ? (uint64_t)(-1 - a) + 1 : (uint64_t)a;
+}
+
+static inline int64_t segment_slope(const int64_t *c) {
+    int64_t left = c[1];
+    for (size_t n = 2; n < 14; n++) left -= (int64_t)(n * n * absolute(c[n]));
+    return left;
+}
+
+static inline size_t half_length(bool moon) {
+    return moon ? 172800 : 1382400;
+}
+
+static inline int64_t mark_size(bool moon) {
+    return moon ? 3240000000 : 540000000;
+}
+
+/* 0, or the number of the refusal */
+static int accept(bool moon, int64_t start, const int64_t *coefs, size_t count) {
+    if (count % 14 != 0 || count == 0) return 2;
+    if ((moon ? 224000 : 28000) < count) return 2;
+    if (start < -10000000000 || 10000000000 < start) return 2;
+    for (size_t i = 0; i < count; i++)
+        if ((i % 14 == 0 ? 1000000000000000u : 4000000000u) < absolute(coefs[i])) return 3;
+    int64_t least = 100 * (int64_t)half_length(moon);
+    for (size_t k = 0; k < count / 14; k++)
+        if (segment_slope(coefs + 14 * k) < least) return 4;
+    for (size_t k = 1; k < count / 14; k++) {
+        int64_t last = segment_value(moon ? 66354816 : 66355152, coefs + 14 * (k - 1));
+        int64_t rise = segment_value(-SCALE, coefs + 14 * k) - last;
+        if (rise < 200 || 100000 < rise) return 5;
+    }
+    return 0;
+}
+
+static inline int64_t value_at(bool moon, int64_t start, const int64_t *coefs, int64_t second) {
+    size_t seconds = (size_t)(second - start);
+    const int64_t *segment = coefs + 14 * (moon ? seconds / 345600 : seconds / 2764800);
+    int64_t x = moon ? 384 * ((int64_t)(seconds % 345600) - 172800) : 48 * ((int64_t)(seconds % 2764800) - 1382400);
+    return segment_value(x, segment);
+}
+
+static inline int64_t floor_div(int64_t a, int64_t m) {
+    int64_t q = a / m, r = a % m;
+    return r < 0 ? q - 1 : q;
+}
+
+/* By a constant for each body, as the proved code divides; and as one would write it first. */
+static inline int64_t same_index(bool moon, int64_t start, const int64_t *coefs, int64_t second) {
+    int64_t value = value_at(moon, start, coefs, second);
+    return moon ? floor_div(value, 3240000000) : floor_div(value, 540000000);
+}
+
+static inline int64_t plain_index(bool moon, int64_t start, const int64_t *coefs, int64_t second) {
+    return floor_div(value_at(moon, start, coefs, second), mark_size(moon));
+}
+
+static inline int64_t last_second(bool moon, int64_t start, size_t count) {
+    return start + (int64_t)(2 * half_length(moon) * (count / 14)) - 1;
+}
+
+/* The finder: two are timed, and one counts. */
+#define FINDER(NAME, INDEX, IN, EVALUATION, OUT)                                                                                                      \
+    static void NAME##_find(bool moon, int64_t start, const int64_t *coefs, size_t count, int64_t lo, int64_t hi, int64_t lowest,                     \
+            int64_t highest, int64_t *out, size_t room) {                                                                                             \
+        if (lowest == highest) return;                                                                                                                \
+        if (hi - lo == 1) {                                                                                                                           \
+            out[0] = highest;                                                                                                                         \
+            out[1] = hi;                                                                                                                              \
+            return;                                                                                                                                   \
+        }                                                                                                                                             \
+        int64_t middle = lo + (hi - lo) / 2;                                                                                                          \
+        EVALUATION int64_t between = INDEX(moon, start, coefs, middle);                                                                               \
+        size_t k = 2 * (size_t)(between - lowest);                                                                                                    \
+        IN NAME##_find(moon, start, coefs, count, lo, middle, lowest, between, out, k);                                                               \
+        NAME##_find(moon, start, coefs, count, middle, hi, between, highest, out + k, room - k);                                                      \
+        OUT                                                                                                                                           \
+    }                                                                                                                                                 \
+    __attribute__((noinline)) static int64_t NAME##_list(bool moon, int64_t start, const int64_t *coefs, size_t count, int64_t *out,                  \
+            size_t room) {                                                                                                                            \
+        int refusal = accept(moon, start, coefs, count);                                                                                              \
+        if (refusal) return -refusal;                                                                                                                 \
+        int64_t last = last_second(moon, start, count);                                                                                               \
+        EVALUATION int64_t lowest = INDEX(moon, start, coefs, start);                                                                                 \
+        EVALUATION int64_t highest = INDEX(moon, start, coefs, last);                                                                                 \
+        size_t marks = (size_t)(highest - lowest);                                                                                                    \
+        if (room / 2 < marks) return -12;                                                                                                             \
+        IN NAME##_find(moon, start, coefs, count, start, last, lowest, highest, out, 2 * marks);                                                      \
+        OUT return (int64_t)marks;                                                                                                                    \
+    }
+
+FINDER(same, same_index, NOTHING, NOTHING, NOTHING)
+FINDER(plain, plain_index, NOTHING, NOTHING, NOTHING)
+FINDER(counted, same_index, if (++depth > deepest) deepest = depth;, COUNTED, depth--;)
+
+/* The locator's next place, as src/guess.rt has it. */
+static size_t proportional(size_t a, size_t b, size_t n) {
+    size_t unit = b / 2147483648 + 1;
+    size_t part = a / unit * n / (b / unit + 1);
+    size_t near = part < n ? part : n - 1;
+    size_t far = n - near;
+    if (near < n / 16) return 2 * near + 1;
+    if (far < n / 16) return n - 2 * far - 1;
+    return near == 0 ? 1 : near;
+}
+
+/* The locator. One is timed; the other counts. */
+#define LOCATOR(NAME, EVALUATION)                                                                                                      \
+    static int64_t NAME##_located(bool moon, int64_t start, const int64_t *coefs, size_t count, int64_t index) {                       \
+        int64_t last = last_second(moon, start, count), target = index * mark_size(moon);                                              \
+        int64_t lo = start, hi = last;                                                                                                 \
+        EVALUATION int64_t below = value_at(moon, start, coefs, start);                                                                \
+        EVALUATION int64_t above = value_at(moon, start, coefs, last);                                                                 \
+        size_t left = (size_t)(hi - lo);                                                                                               \
+        bool halve = 0;                                                                                                                \
+        while (left > 1) {                                                                                                             \
+            size_t step = halve ? left / 2 : proportional((size_t)(target - below), (size_t)(above - below), left);                    \
+            int64_t middle = lo + (int64_t)step;                                                                                       \
+            EVALUATION int64_t value = value_at(moon, start, coefs, middle);                                                           \
+            if (value < target) {                                                                                                      \
+                lo = middle;                                                                                                           \
+                below = value;                                                                                                         \
+            } else {                                                                                                                   \
+                hi = middle;                                                                                                           \
+                above = value;                                                                                                         \
+            }                                                                                                                          \
+            size_t rest = (size_t)(hi - lo);                                                                                           \
+            halve = !halve && left / 2 < rest;                                                                                         \
+            left = rest;                                                                                                               \
+        }                                                                                                                              \
+        return hi;                                                                                                                     \
+    }
+
+LOCATOR(plain, NOTHING)
+LOCATOR(counted, COUNTED)
+
+__attribute__((noinline)) static int64_t plain_locate(bool moon, int64_t start, const int64_t *coefs, size_t count, int64_t *out, size_t room) {
+    int refusal = accept(moon, start, coefs, count);
+    if (refusal) return -refusal;
+    int64_t lowest = same_index(moon, start, coefs, start);
+    size_t marks = (size_t)(same_index(moon, start, coefs, last_second(moon, start, count)) - lowest);
+    if (room < marks) return -12;
+    for (size_t i = 0; i < marks; i++) out[i] = plain_located(moon, start, coefs, count, lowest + (int64_t)(i + 1));
+    return (int64_t)marks;
+}
+
+/* Plain bisection, to compare. */
+static int64_t bisected(bool moon, int64_t start, const int64_t *coefs, size_t count, int64_t index) {
+    int64_t target = index * mark_size(moon), lo = start, hi = last_second(moon, start, count);
+    while (hi - lo > 1) {
+        int64_t middle = lo + (hi - lo) / 2;
+        COUNTED if (value_at(moon, start, coefs, middle) < target) lo = middle;
+        else hi = middle;
+    }
+    return hi;
+}
+
+static double now(void) {
+    struct timespec t;
+    clock_gettime(CLOCK_MONOTONIC, &t);
+    return t.tv_sec + t.tv_nsec * 1e-9;
+}
+
+static int64_t words[MOST_WORDS], out[5][2 * MOST_MARKS];
+
+typedef int64_t entry(bool, int64_t, const int64_t *, size_t, int64_t *, size_t);
+
+/* The best time of each, in turn: the proved one, the same in C, and where there is one the plain one. */
+static void race(entry *const *entries, int number, bool moon, size_t room, const char *what, double per, const char *unit) {
+    double best[3] = {1e9, 1e9, 1e9};
+    for (int r = 0; r < ROUNDS; r++)
+        for (int k = 0; k < number; k++) {
+            double t = now();
+            entries[k](moon, words[1], words + 2, 14 * (size_t)words[0], out[k], room);
+            t = now() - t;
+            if (t < best[k]) best[k] = t;
+        }
+    printf("%s, %s: proved %.1f ns a %s, same in C %.1f", moon ? "Moon" : "Sun", what, best[0] / per * 1e9, unit, best[1] / per * 1e9);
+    if (number > 2) printf(", plain C %.1f", best[2] / per * 1e9);
+    printf("; proved/same %.3f", best[0] / best[1]);
+    if (number > 2) printf(", proved/plain %.3f", best[0] / best[2]);
+    printf("\n");
+}
+
+/* Compares every answer, and counts. */
+static int counted(const char *name, bool moon) {
+    size_t count = 14 * (size_t)words[0], room = 2 * MOST_MARKS;
+    int64_t start = words[1];
+    const int64_t *coefs = words + 2;
+    evaluations = deepest = 0;
+    int64_t n = counted_list(moon, start, coefs, count, out[4], room);
+    size_t listing = evaluations;
+    if (n <= 0 || marks_list(moon, start, coefs, count, out[0], room) != n || same_list(moon, start, coefs, count, out[1], room) != n ||
+        marks_locate(moon, start, coefs, count, out[2], room) != n || plain_locate(moon, start, coefs, count, out[3], room) != n) {
+        printf("%s: the answers differ, or refuse\n", name);
+        return 1;
+    }
+    size_t sum = 0, most = 0, halved = 0, most_halved = 0, least_halved = 64;
+    for (size_t i = 0; i < (size_t)n; i++) {
+        int64_t index = out[0][2 * i], second = out[0][2 * i + 1];
+        evaluations = 0;
+        int64_t at = counted_located(moon, start, coefs, count, index);
+        sum += evaluations;
+        if (evaluations > most) most = evaluations;
+        evaluations = 0;
+        int64_t again = bisected(moon, start, coefs, count, index);
+        halved += evaluations;
+        if (evaluations > most_halved) most_halved = evaluations;
+        if (evaluations < least_halved) least_halved = evaluations;
+        if (out[1][2 * i] != index || out[4][2 * i] != index || out[1][2 * i + 1] != second || out[4][2 * i + 1] != second || out[2][i] != second ||
+            out[3][i] != second || at != second || again != second) {
+            printf("%s: mark %ld differs\n", name, index);
+            return 1;
+        }
+    }
+    printf("%s, %ld marks: finder %.2f evaluations a mark, %lu deep; locator %.2f, at most %lu; bisection %.2f, %lu to %lu\n", name, n, (double)listing / n,
+           deepest, (double)sum / n, most, (double)halved / n, least_halved, most_halved);
+    return 0;
+}
+
+static int real(const char *path, bool moon) {
+    const char *name = moon ? "Moon" : "Sun";
+    int file = open(path, 0);
+    size_t bytes = 0;
+    for (long n; (n = read(file, (char *)words + bytes, sizeof words - bytes)) > 0;) bytes += (size_t)n;
+    close(file);
+    if (bytes < 16 || bytes != 16 + 112 * (size_t)words[0]) {
+        printf("%s: no series\n", path);
+        return 1;
+    }
+    if (counted(name, moon)) return 1;
+    double n = plain_list(moon, words[1], words + 2, 14 * (size_t)words[0], out[4], 2 * MOST_MARKS);
+    entry *const list[3] = {marks_list, same_list, plain_list}, *const locate[2] = {marks_locate, plain_locate};
+    race(list, 2, moon, 0, "acceptance alone", words[0], "segment");
+    race(list, 3, moon, 2 * MOST_MARKS, "acceptance and list", n, "mark");
+    race(locate, 2, moon, 2 * MOST_MARKS, "acceptance and locator", n, "mark");
+    return 0;
+}
+
+/* Straight segments, slow or fast by the shape's rule, joined by the least rise. */
+enum { FAST_LAST, FAST_FIRST, FAST_AT_RANDOM, RATES_AT_RANDOM, SHAPES };
+static const char *const shapes[SHAPES] = {"slow, then fast", "fast, then slow", "a fast one in a thousand", "random rates"};
+
+static int made(bool moon, int shape) {
+    int64_t slow = 100 * (int64_t)half_length(moon), fast = 4000000000, rate = 0;
+    uint64_t z = 1;
+    words[0] = moon ? 16000 : 2000;
+    words[1] = 0;
+    for (size_t k = 0; k < (size_t)words[0]; k++) {
+        int64_t *c = words + 2 + 14 * k, first = k ? segment_value(moon ? 66354816 : 66355152, c - 14) + 200 : -20000000000000;
+        z = z * 6364136223846793005u + 1442695040888963407u;
+        switch (shape) {
+        case FAST_LAST: rate = k + 1 == (size_t)words[0] ? fast : slow; break;
+        case FAST_FIRST: rate = k == 0 ? fast : slow; break;
+        case FAST_AT_RANDOM: rate = (z >> 33) % 1000 == 0 ? fast : slow; break;
+        default: rate = slow + (int64_t)((z >> 33) % (uint64_t)(fast - slow));
+        }
+        c[0] = first + rate;
+        c[1] = rate;
+        for (size_t n = 2; n < 14; n++) c[n] = 0;
+    }
+    printf("%s, ", moon ? "made Moon" : "made Sun");
+    return counted(shapes[shape], moon);
+}
+
+int main(int arguments, char **argument) {
+    if (arguments != 3) {
+        printf("arguments: a file of the Sun's series, and one of the Moon's\n");
+        return 2;
+    }
+    if (real(argument[1], 0) || real(argument[2], 1)) return 1;
+    for (int shape = 0; shape < 2 * SHAPES; shape++)
+        if (made(shape % 2, shape / 2)) return 1;
+    return 0;
+}
