@@ -8,8 +8,7 @@ use lib.ListN.{length, take, drop}
 use lib.Seq.{drop-nil}
 use native.Mathlib.Nat.{zero-add}
 use Rattle.listing.specs.declared.Part.{Part}
-use Rattle.listing.specs.Parts.{fitting}
-use Rattle.listing.specs.Ready.{partAnswer, partHeld}
+use Rattle.listing.specs.Parts.{fitting, partAnswer, partHeld}
 
 -- an answer, and what the room holds
 abbrev pub Answered : List (List ℕ) → ℕ → List ℕ → Part → List ℕ → Type 0

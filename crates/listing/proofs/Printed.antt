@@ -6,8 +6,7 @@ use native.Mathlib.Omega.{arith}
 use lib.ListN.{length, take, drop, getD, length-append, length-drop}
 use lib.Seq.{take-at, drop-at, drop-drop, take-suc, getD-drop}
 use Rattle.listing.specs.declared.Part.{Part}
-use Rattle.listing.specs.Parts.{concat, concat-append, fitting, linesIn, partOf, fitting-next, fitting-full, fitting-end}
-use Rattle.listing.specs.Ready.{partAnswer, partHeld}
+use Rattle.listing.specs.Parts.{concat, concat-append, fitting, linesIn, partOf, partAnswer, partHeld, fitting-next, fitting-full, fitting-end}
 
 abbrev the : ℕ → ℕ → Part
 the n b = record { lines = n; bytes = b }

@@ -9,6 +9,7 @@ use borrow.Author.Tests.{ltb-false, lt-ltb, le-ltb}
 use lib.Dec.{ltb}
 use lib.ListN.{length, take, drop, getD, length-append, length-drop, take-append-drop}
 use lib.Seq.{drop-cons, drop-drop}
+use Rattle.listing.specs.declared.Part.{Part}
 
 abbrev pub concat : List (List ℕ) → List ℕ
 concat [] = []
@@ -25,6 +26,13 @@ linesIn lines i room = fitting room (drop i lines)
 
 abbrev pub partOf : List (List ℕ) → ℕ → ℕ → List ℕ
 partOf lines i room = concat (take (linesIn lines i room) (drop i lines))
+
+-- what the entry point answers for a list of lines, and what the room holds afterwards
+abbrev pub partAnswer : List (List ℕ) → ℕ → ℕ → Part
+partAnswer lines i room = record { lines = linesIn lines i room; bytes = length (partOf lines i room) }
+
+abbrev pub partHeld : List (List ℕ) → ℕ → List ℕ → List ℕ
+partHeld lines i room = partOf lines i (length room) ++ drop (length (partOf lines i (length room))) room
 
 pub concat-append : (a b : List (List ℕ)) → concat (a ++ b) ≡ concat a ++ concat b
 concat-append [] b = refl

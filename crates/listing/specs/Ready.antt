@@ -1,4 +1,4 @@
--- An input of which nothing is refused, and its lines. Assumes nothing.
+-- An input of which nothing is refused (`Ready`), and what its lines are: `ready-lines`, with `sun-early` and `moon-early` for 7. Assumes nothing.
 use mathlib.Core.Path.{_≡_, refl, sym, ap, _∙_}
 use mathlib.Core.Bool.{Bool, true, false, not}
 use mathlib.Core.List.{List, [], _∷_, _++_, map, append-nil}
@@ -6,14 +6,13 @@ use Prim.Native.Nat.{ℕ, zero, suc, _+_, _<_}
 use native.Mathlib.Omega.{arith}
 use borrow.Author.Tests.{not-false}
 use lib.IntN.{ℤ}
-use lib.ListN.{length, getD, drop, length-append, length-map, List·getD-append}
+use lib.ListN.{length, getD, length-append, length-map, List·getD-append}
 use lib.Seq.{getD-append-add}
 use Rattle.refusals.specs.Verdict.{Verdict, answered, refused, refusal, accepted, refuseWhen-accepted, _then_}
 use Rattle.refusals.specs.declared.Check.{Check}
 use Rattle.refusals.specs.declared.Check.the-variants as check
-use Rattle.clock.specs.Leap.{lawful, holds}
 use Rattle.clock.specs.Clock.{tai, shownIn, milliIn}
-use Rattle.clock.specs.Leap.{last, entries, entryUsed}
+use Rattle.clock.specs.Leap.{lawful, holds, last, entries, entryUsed}
 use Rattle.clock.specs.Answers.{leapJudged}
 use Rattle.clock.proofs.Used.{none-used}
 use Rattle.clock.proofs.Table as table
@@ -22,18 +21,9 @@ use Rattle.series.specs.declared.Body.the-variants.{Sun, Moon}
 use Rattle.series.specs.Acceptance.{Accepted}
 use Rattle.marks.specs.Marks.{Mark}
 use Rattle.marks.specs.Listed.{listedMarks}
-use Rattle.listing.specs.declared.Part.{Part}
 use Rattle.listing.specs.Layout.{Input}
 use Rattle.listing.specs.Listing.{lineOf, all, marksOf, linesOf, second}
 use Rattle.listing.specs.Lines.{none, AllHeld, FirstNotHeld}
-use Rattle.listing.specs.Parts.{linesIn, partOf}
-
--- what the entry point answers for a list of lines, and what the room holds afterwards
-abbrev pub partAnswer : List (List ℕ) → ℕ → ℕ → Part
-partAnswer lines i room = record { lines = linesIn lines i room; bytes = length (partOf lines i room) }
-
-abbrev pub partHeld : List (List ℕ) → ℕ → List ℕ → List ℕ
-partHeld lines i room = partOf lines i (length room) ++ drop (length (partOf lines i (length room))) room
 
 abbrev pub inputOf : List ℤ → ℤ → List ℤ → ℤ → List ℤ → Input
 inputOf leap sunStart sun moonStart moon = record { leap = leap; sunStart = sunStart; sun = sun; moonStart = moonStart; moon = moon }

@@ -2,7 +2,7 @@
 ghost use mathlib.Core.Path.{_≡_};
 ghost use lib.ListN.{length};
 ghost use Rattle.listing.specs.Listing.{listing};
-ghost use Rattle.listing.specs.Ready.{partAnswer, partHeld};
+ghost use Rattle.listing.specs.Parts.{partAnswer, partHeld};
 
 mod layout;
 mod lines;

@@ -18,7 +18,8 @@ ghost use Rattle.series.specs.declared.Body.the-variants.{Sun, Moon};
 ghost use Rattle.marks.specs.Listed.{listedMarks};
 ghost use Rattle.listing.specs.Layout.{inputAt};
 ghost use Rattle.listing.specs.Lines.{lineText};
-ghost use Rattle.listing.specs.Ready.{inputOf, Judged, Ready, texts, partAnswer, partHeld};
+ghost use Rattle.listing.specs.Parts.{partAnswer, partHeld};
+ghost use Rattle.listing.specs.Ready.{inputOf, Judged, Ready, texts};
 
 // Judges everything: the leap table (1), the Sun and the Moon (2 to 5), and that every mark lies after the first leap entry (7).
 pub fn judge(leap: &[i64], sunstart: Second, sun: &[i64], moonstart: Second, moon: &[i64]) -> Check

@@ -7,7 +7,7 @@ use mathlib.Core.List.{List}
 use mathlib.Core.Path.{_≡_, sym}
 use native.Mathlib.Omega.{arith}
 use Rattle.listing.specs.Listing.{listing}
-use Rattle.listing.specs.Ready.{partAnswer, partHeld}
+use Rattle.listing.specs.Parts.{partAnswer, partHeld}
 use Rattle.listing.specs.declared.Part.{Part}
 use Rattle.list_run.proofs.print_from.Statement.{statement}
 use Rattle.list_run.proofs.print_from.Tie as tie
