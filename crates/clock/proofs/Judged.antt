@@ -4,9 +4,9 @@ use mathlib.Core.Bool.{true, false}
 use mathlib.Core.List.{List}
 use lib.IntN.{ℤ}
 use Rattle.refusals.specs.Verdict.{Verdict, answered, refused, accepted, _before_}
-use Rattle.dates.specs.declared.Day.{Day}
-use Rattle.clock.specs.declared.Second.{Second}
-use Rattle.clock.specs.declared.Milli.{Milli}
+use Rattle.times.specs.declared.Day.{Day}
+use Rattle.times.specs.declared.Second.{Second}
+use Rattle.times.specs.declared.Milli.{Milli}
 use Rattle.clock.specs.declared.ShownTime.{ShownTime}
 use Rattle.clock.specs.Leap.{lawful, holds}
 use Rattle.clock.specs.Clock.{convertible, tai, milliIn, dayOfMilli, shownOfMilli, dayIn, shownIn}

@@ -12,8 +12,8 @@ use Rattle.refusals.specs.Verdict.{Verdict, answered, refused, _then_}
 use Rattle.whole.specs.Ranges.{Within, within, bounds}
 use Rattle.whole.specs.Floor.{floorDiv, floorDiv-ge, floorDiv-le}
 use Rattle.dates.specs.Answers.{hasDate}
-use Rattle.clock.specs.declared.Milli.{Milli}
-use Rattle.clock.specs.declared.Second.{Second}
+use Rattle.times.specs.declared.Milli.{Milli}
+use Rattle.times.specs.declared.Second.{Second}
 use Rattle.clock.specs.Leap.{lawful, entries, offset, holds, entryUsed}
 use Rattle.clock.specs.Clock.{convertible, tai, localMilli, milliIn, dayOfMilli}
 use Rattle.whole.specs.Booleans.{both}

@@ -13,10 +13,10 @@ use Rattle.whole.specs.Ranges.{Within, within, bounds}
 use Rattle.whole.specs.Solver.{⇑, ⇓, ring, le-yes, le-no, yes-le}
 use Rattle.whole.specs.Floor.{floorDiv, floorDiv-ge, floorDiv-le, floorDiv-low, floorDiv-high, floorDiv-mono}
 use Rattle.refusals.specs.Verdict.{Verdict, answered, refused, _then_}
-use Rattle.dates.specs.declared.Day.{Day}
+use Rattle.times.specs.declared.Day.{Day}
 use Rattle.dates.specs.Answers.{hasDate}
-use Rattle.clock.specs.declared.Second.{Second}
-use Rattle.clock.specs.declared.Milli.{Milli}
+use Rattle.times.specs.declared.Second.{Second}
+use Rattle.times.specs.declared.Milli.{Milli}
 use Rattle.clock.specs.Leap.{lawful, entries, day, offset, holdsFrom, holds}
 use Rattle.clock.specs.Clock.{convertible, tai, localMilli, milliIn, dayOfMilli, dayIn}
 use Rattle.clock.specs.Answers.{utc8, dayOfSecond}

@@ -6,10 +6,10 @@ use mathlib.Core.List.{List}
 use lib.IntN.{ℤ, pos, negsuc, _+ℤ_, _-ℤ_, _*ℤ_}
 use Rattle.refusals.specs.Verdict.{Verdict, answered, _then_}
 use Rattle.whole.specs.Floor.{floorDiv, floorMod}
-use Rattle.dates.specs.declared.Day.{Day}
+use Rattle.times.specs.declared.Day.{Day}
 use Rattle.dates.specs.Calendar.{dateFor}
-use Rattle.clock.specs.declared.Second.{Second}
-use Rattle.clock.specs.declared.Milli.{Milli}
+use Rattle.times.specs.declared.Second.{Second}
+use Rattle.times.specs.declared.Milli.{Milli}
 use Rattle.clock.specs.declared.ShownTime.{ShownTime}
 use Rattle.clock.specs.Leap.{between, offset, entryUsed}
 

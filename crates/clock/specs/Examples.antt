@@ -8,10 +8,10 @@ use Rattle.refusals.specs.Verdict.{Verdict, answered, refused}
 use Rattle.refusals.specs.Evaluated.{isAccepted, isRefused}
 use Rattle.whole.specs.Evaluated.{same, all}
 use Rattle.whole.specs.Floor.{floorDiv, floorMod}
-use Rattle.dates.specs.declared.Day.{Day}
+use Rattle.times.specs.declared.Day.{Day}
 use Rattle.dates.specs.Calendar.{leapYear, leapYearsTo, newYear, monthLengths, guess, yearOf, monthsOver, dateInYear, dateFor}
-use Rattle.clock.specs.declared.Second.{Second}
-use Rattle.clock.specs.declared.Milli.{Milli}
+use Rattle.times.specs.declared.Second.{Second}
+use Rattle.times.specs.declared.Milli.{Milli}
 use Rattle.clock.specs.declared.ShownTime.{ShownTime}
 use Rattle.clock.specs.Leap.{firstEntry, nextEntry, goodEntry, every, lawful, holdsFrom, holds, last, entryUsed}
 use Rattle.clock.specs.Clock.{convertible, tai, localMilli, milliIn, dayOfMilli, shownOfMilli, dayIn, shownIn}

@@ -1,9 +1,9 @@
 // The parts of the entry points. Those with a `requires` are for callers that have judged the table and the second: they judge nothing again.
 // The zone is in minutes.
-use super::Milli;
-use super::Second;
+use times::Milli;
+use times::Second;
 use super::ShownTime;
-use dates::Day;
+use times::Day;
 use whole::inner::add;
 use whole::inner::count;
 use whole::inner::floor_mod;

@@ -1,9 +1,11 @@
 // The clock: from TDB seconds by a leap table to UTC+8 milliseconds, days and shown times (document 01, "Three counts of time").
 use dates::Date;
-use dates::Day;
 use dates::DayAnswer;
 use refusals::Check;
 use refusals::Refusal;
+use times::Day;
+use times::Milli;
+use times::Second;
 ghost use mathlib.Core.Path.{_≡_};
 ghost use Rattle.refusals.specs.Verdict.{paperCheck};
 ghost use Rattle.dates.specs.Answers.{paperDay};
@@ -11,12 +13,6 @@ ghost use Rattle.clock.specs.Clock.{dayOfMilli};
 ghost use Rattle.clock.specs.Answers.{leapJudged, milliOf, dayOfSecond, shownOf, paperMilli, paperShown};
 
 pub mod inner;
-
-// A TDB second, counted from 2000-01-01 00:00:00 TDB.
-pub struct Second(pub i64);
-
-// A UTC+8 millisecond, counted from 2000-01-01 00:00 UTC+8.
-pub struct Milli(pub i64);
 
 // A time as it is shown.
 pub struct ShownTime {

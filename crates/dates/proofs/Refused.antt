@@ -13,7 +13,7 @@ use Rattle.whole.specs.Solver.{⇑, ⇓, ring, lt-yes, no-le}
 use Rattle.whole.specs.Floor.{floorDiv}
 use Rattle.refusals.specs.Verdict.{answered, refused}
 use Rattle.dates.specs.declared.Date.{Date}
-use Rattle.dates.specs.declared.Day.{Day}
+use Rattle.times.specs.declared.Day.{Day}
 use Rattle.dates.specs.Calendar.{leapYearsTo, newYear, lengthsIn, sum, yearLength, valid, dayNumber, dateFor}
 use Rattle.dates.specs.Answers.{hasDate, dateOf, dayOf}
 use Rattle.dates.proofs.Years.{next-year, in-order}

@@ -13,7 +13,7 @@ use Rattle.whole.specs.Solver.{⇑, ⇓, ring, lt-no}
 use Rattle.whole.specs.Floor.{floorDiv, floorMod}
 use Rattle.refusals.specs.Verdict.{answered}
 use Rattle.dates.specs.declared.Date.{Date}
-use Rattle.dates.specs.declared.Day.{Day}
+use Rattle.times.specs.declared.Day.{Day}
 use Rattle.dates.specs.Answers.{hasDate, dateOf, dayOf}
 use Rattle.dates.specs.Calendar.{leapYear, leapYearsTo, newYear, monthLengths, lengthsIn, sum, yearLength, yearOf, monthLength, daysBefore, numberOf, valid, dayNumber, dateFor, dateAfter}
 use Rattle.dates.proofs.Refused.{date-refused, date-found, no-date, no-day, day-found}

@@ -5,7 +5,7 @@ use lib.IntN.{ℤ, pos, negsuc}
 use lib.Signed.{leZ}
 use Rattle.refusals.specs.Verdict.{Verdict, answered, refusal, refuseWhen, _before_}
 use Rattle.dates.specs.declared.Date.{Date}
-use Rattle.dates.specs.declared.Day.{Day}
+use Rattle.times.specs.declared.Day.{Day}
 use Rattle.dates.specs.declared.DateAnswer.{DateAnswer}
 use Rattle.dates.specs.declared.DayAnswer.{DayAnswer}
 use Rattle.dates.specs.declared.DateAnswer.the-variants as date

@@ -9,7 +9,7 @@ use Rattle.refusals.specs.Evaluated.{isRefused}
 use Rattle.whole.specs.Evaluated.{same, all}
 use Rattle.whole.specs.Floor.{floorDiv, floorMod}
 use Rattle.dates.specs.declared.Date.{Date}
-use Rattle.dates.specs.declared.Day.{Day}
+use Rattle.times.specs.declared.Day.{Day}
 use Rattle.dates.specs.Calendar.{leapYear, leapYearsTo, newYear, monthLengths, monthLength, daysBefore, validDate, numberOf, guess, yearOf, monthsOver, dateInYear, dateFor}
 use Rattle.dates.specs.Answers.{hasDate, dateOf, dayOf}
 

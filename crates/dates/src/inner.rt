@@ -1,6 +1,6 @@
 // The parts of the two entry points. Those that ask something of their arguments are for callers that have judged them.
 use super::Date;
-use super::Day;
+use times::Day;
 use whole::inner::add;
 use whole::inner::count;
 use whole::inner::distance;

@@ -1,12 +1,10 @@
 // Days and Gregorian dates (document 01, "Three counts of time").
 use refusals::Refusal;
+use times::Day;
 ghost use mathlib.Core.Path.{_≡_};
 ghost use Rattle.dates.specs.Answers.{dateOf, dayOf, paperDate, paperDay};
 
 pub mod inner;
-
-// A day number: the days from 2000-01-01.
-pub struct Day(pub i64);
 
 pub struct Date {
     pub year: i64,

@@ -1,6 +1,6 @@
 // Walks every day that has a date through both directions and counts those that come back, the firsts and the thirty-firsts of a month among them.
 use dates::DateAnswer;
-use dates::Day;
+use times::Day;
 use dates::DayAnswer;
 use libc::STDOUT_FILENO;
 ghost use Prim.Native.Nat.{_<_, _≤_};

@@ -11,7 +11,7 @@ use Rattle.whole.specs.Floor.{floorMod}
 use Rattle.refusals.specs.Verdict.{Verdict, answered, refused, refuseWhen, _before_, _then_}
 use Rattle.words.specs.Words.{words}
 use Rattle.text.specs.Text.{line, date, time, refusalLine}
-use Rattle.clock.specs.declared.Second.{Second}
+use Rattle.times.specs.declared.Second.{Second}
 use Rattle.clock.specs.declared.ShownTime.{ShownTime}
 use Rattle.clock.specs.Clock.{shownIn}
 use Rattle.clock.specs.Answers.{leapJudged, utc8}

@@ -1,5 +1,5 @@
 // The lines of one body's marks. Each mark is found by the locator, so that no list of marks is held.
-use clock::Second;
+use times::Second;
 use clock::ShownTime;
 use series::Body;
 use text::Moment;

@@ -4,7 +4,7 @@ use crate::layout;
 use crate::layout::PlacesAnswer;
 use crate::lines;
 use crate::lines::Line;
-use clock::Second;
+use times::Second;
 use refusals::Check;
 use refusals::Refusal;
 use series::Body;

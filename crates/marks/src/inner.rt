@@ -1,6 +1,6 @@
 // What other crates ask of an accepted series' marks.
 use crate::guess;
-use clock::Second;
+use times::Second;
 use series::Body;
 ghost use mathlib.Core.Path.{_≡_};
 ghost use lib.IntN.{pos};

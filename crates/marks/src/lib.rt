@@ -1,5 +1,5 @@
 // Marks: the seconds at which a series' value reaches a multiple of a mark.
-use clock::Second;
+use times::Second;
 use refusals::Check;
 use refusals::Refusal;
 use series::Body;

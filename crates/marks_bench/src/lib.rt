@@ -1,5 +1,5 @@
 // The finder and the locator for a C program that times them: the body as a flag, the answer as one number.
-use clock::Second;
+use times::Second;
 use marks::ListAnswer;
 use refusals::Check;
 use series::Body;

@@ -1,6 +1,6 @@
 // Lists the marks of a cut of real series, 24 segments of the Sun and 96 of the Moon, and prints how many there are and a checksum. What it must
 // print comes from a plain walk over neighbouring seconds (bench/walk.c).
-use clock::Second;
+use times::Second;
 use marks::ListAnswer;
 use series::Body;
 ghost use mathlib.Core.Path.{_≡_};

@@ -1,6 +1,6 @@
 // The value at a second of an accepted series. Callers show that the series is accepted and that the second is in its span.
 use crate::Body;
-use clock::Second;
+use times::Second;
 ghost use mathlib.Core.Path.{_≡_};
 ghost use Prim.Native.Nat.{_/_, _<_};
 ghost use lib.IntN.{pos, _-ℤ_, _*ℤ_};

@@ -1,5 +1,5 @@
 // A series: a start second and fourteen coefficients a segment, of the Sun or of the Moon; its acceptance, and its value at a second.
-use clock::Second;
+use times::Second;
 use refusals::Check;
 use refusals::Refusal;
 ghost use mathlib.Core.Path.{_≡_};

@@ -2,7 +2,7 @@
 use Prim.Native.Nat.{ℕ, _/_, _%_}
 use Rattle.whole.specs.Parts.{ℤ-rules}
 use Rattle.whole.specs.Floor.{floorMod}
-use Rattle.dates.specs.declared.Day.{Day}
+use Rattle.times.specs.declared.Day.{Day}
 use Rattle.dates.specs.Answers.{hasDate}
 use Rattle.dates.specs.Calendar.{dateFor}
 use Rattle.clock.specs.Clock.{shownOfMilli}
