@@ -1,9 +1,9 @@
 // The parts of the entry points. Those with a `requires` are for callers that have judged the table and the second: they judge nothing again.
 // The zone is in minutes.
-use times::Milli;
-use times::Second;
 use super::ShownTime;
 use times::Day;
+use times::Milli;
+use times::Second;
 use whole::inner::add;
 use whole::inner::count;
 use whole::inner::floor_mod;

@@ -1,8 +1,8 @@
 // Walks every day that has a date through both directions and counts those that come back, the firsts and the thirty-firsts of a month among them.
 use dates::DateAnswer;
-use times::Day;
 use dates::DayAnswer;
 use libc::STDOUT_FILENO;
+use times::Day;
 ghost use Prim.Native.Nat.{_<_, _≤_};
 
 // Day -150,000 + k.

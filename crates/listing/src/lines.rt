@@ -1,8 +1,8 @@
 // The lines of one body's marks. Each mark is found by the locator, so that no list of marks is held.
-use times::Second;
 use clock::ShownTime;
 use series::Body;
 use text::Moment;
+use times::Second;
 ghost use mathlib.Core.Path.{_≡_};
 ghost use mathlib.Core.Bool.{true, false};
 ghost use Prim.Native.Nat.{_<_};

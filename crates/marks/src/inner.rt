@@ -1,7 +1,7 @@
 // What other crates ask of an accepted series' marks.
 use crate::guess;
-use times::Second;
 use series::Body;
+use times::Second;
 ghost use mathlib.Core.Path.{_≡_};
 ghost use lib.IntN.{pos};
 ghost use lib.Signed.{_≤ℤ_, _<ℤ_};

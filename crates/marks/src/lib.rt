@@ -1,8 +1,8 @@
 // Marks: the seconds at which a series' value reaches a multiple of a mark.
-use times::Second;
 use refusals::Check;
 use refusals::Refusal;
 use series::Body;
+use times::Second;
 ghost use mathlib.Core.Path.{_≡_};
 ghost use lib.ListN.{length};
 ghost use Rattle.series.specs.Bodies.{numbers};

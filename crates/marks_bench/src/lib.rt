@@ -1,8 +1,8 @@
 // The finder and the locator for a C program that times them: the body as a flag, the answer as one number.
-use times::Second;
 use marks::ListAnswer;
 use refusals::Check;
 use series::Body;
+use times::Second;
 ghost use mathlib.Core.Path.{_≡_};
 ghost use Prim.Native.Nat.{_+_, _^_, _≤_, _<_};
 ghost use lib.IntN.{pos, negℤ, _+ℤ_};

@@ -1,8 +1,8 @@
 // Lists the marks of a cut of real series, 24 segments of the Sun and 96 of the Moon, and prints how many there are and a checksum. What it must
 // print comes from a plain walk over neighbouring seconds (bench/walk.c).
-use times::Second;
 use marks::ListAnswer;
 use series::Body;
+use times::Second;
 ghost use mathlib.Core.Path.{_≡_};
 ghost use Prim.Native.Nat.{_<_};
 ghost use lib.ListN.{length};

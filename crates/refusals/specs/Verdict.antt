@@ -1,5 +1,5 @@
 -- What an entry point says on paper: an answer, or a refusal by number and segment; and "the first refusal wins", as one combinator. Assumes nothing.
-use mathlib.Core.Path.{_≡_, refl, sym, _∙_}
+use mathlib.Core.Path.{_≡_, refl, sym, ap, _∙_}
 use mathlib.Core.Bool.{Bool, true, false, cond}
 use Prim.Native.Nat.{ℕ}
 use native.Mathlib.Omega.{arith}
@@ -11,9 +11,16 @@ pub data Verdict (A : Type 0) : Type 0 where
   answered : A → Verdict A
   refused : (number segment : ℕ) → Verdict A
 
--- The laws: two results that both equal one definition are equal, and the first refusal wins.
-pub one-result : {A : Type 0} {a b definition : A} → a ≡ definition → b ≡ definition → a ≡ b
-one-result p q = p ∙ sym q
+-- A promise says on paper what is answered. Where the paper tells any two answers apart, two results that a promise allows are the same result.
+abbrev pub OneToOne : {X Paper : Type 0} → (X → Paper) → Type 0
+OneToOne {X} paper = (a b : X) → paper a ≡ paper b → a ≡ b
+
+pub one-result : {X Paper : Type 0} (paper : X → Paper) → OneToOne paper → {definition : Paper} (a b : X) → paper a ≡ definition → paper b ≡ definition → a ≡ b
+one-result paper apart a b p q = apart a b (p ∙ sym q)
+
+-- and so is what a lent place holds, which a promise says by itself
+pub one-content : {A : Type 0} {definition : A} (a b : A) → a ≡ definition → b ≡ definition → a ≡ b
+one-content a b p q = p ∙ sym q
 
 -- what the second says, unless the first refuses
 infixr 5 _before_
@@ -51,14 +58,43 @@ abbrev pub paperCheck : Check → Verdict (Unit {0})
 paperCheck Accepted = accepted
 paperCheck (Refused r) = refusal r
 
+-- ---- the paper tells answers apart: each answer enum adds its own line to these
+pub answers-apart : {A : Type 0} {a b : A} → answered a ≡ answered b → a ≡ b
+answers-apart e = cc
+
+pub refusals-apart : {A : Type 0} (r s : Refusal) → refusal {A = A} r ≡ refusal {A = A} s → r ≡ s
+refusals-apart {A} r s e = λ t. record { number = number-same t; segment = segment-same t }
+  where
+    number-same : r .number ≡ s .number
+    number-same = cc
+
+    segment-same : r .segment ≡ s .segment
+    segment-same = cc
+
+-- an answer is no refusal
+pub answer-or-refusal : {A : Type 0} {X : Type 0} {a : A} {number segment : ℕ} → answered a ≡ refused number segment → X
+answer-or-refusal e = let z : _≡_ {A = ℕ} 0 1 = cc in absurd (omega arith)
+
+pub checks-apart : OneToOne paperCheck
+checks-apart Accepted Accepted e = refl
+checks-apart Accepted (Refused s) e = answer-or-refusal e
+checks-apart (Refused r) Accepted e = answer-or-refusal (sym e)
+checks-apart (Refused r) (Refused s) e = ap Refused (refusals-apart r s e)
+
 -- ---- what is accepted was refused by none
 pub before-accepted : (u v : Verdict (Unit {0})) → u before v ≡ accepted → (u ≡ accepted) × (v ≡ accepted)
 before-accepted (answered tt) v e = (refl, e)
 before-accepted (refused number segment) v e = let z : _≡_ {A = ℕ} 0 1 = cc in absurd (omega arith)
 
+pub both-accepted : (u v : Verdict (Unit {0})) → u ≡ accepted → v ≡ accepted → u before v ≡ accepted
+both-accepted u v p q = rw p q
+
 pub refuseWhen-accepted : (test : Bool) (number : ℕ) → refuseWhen test number ≡ accepted → test ≡ false
 refuseWhen-accepted true number e = let z : _≡_ {A = ℕ} 0 1 = cc in absurd (omega arith)
 refuseWhen-accepted false number e = refl
+
+pub accepted-when : (test : Bool) (number : ℕ) → test ≡ false → refuseWhen test number ≡ accepted
+accepted-when test number e = rw e
 
 -- ---- a judge's `Check` in a chain: the chain is refused with it, or goes on behind it
 pub refused-first : {A : Type 0} {q : Check} {r : Refusal} {u : Verdict (Unit {0})} (v : Verdict A) → paperCheck q ≡ u → q ≡ Refused r → refusal r ≡ u before v

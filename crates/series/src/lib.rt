@@ -1,7 +1,7 @@
 // A series: a start second and fourteen coefficients a segment, of the Sun or of the Moon; its acceptance, and its value at a second.
-use times::Second;
 use refusals::Check;
 use refusals::Refusal;
+use times::Second;
 ghost use mathlib.Core.Path.{_≡_};
 ghost use Rattle.refusals.specs.Verdict.{paperCheck};
 ghost use Rattle.series.specs.Acceptance.{judged, valueOf, paperValue};
