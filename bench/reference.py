@@ -2,9 +2,11 @@
 """An independent listing, by plain bisection over whole numbers of any size, to compare the proved program with.
 
 reference.py FILE          prints the listing of an input
-reference.py --random N    compares target/bin/list with it on N random inputs, lawful and damaged (a fixed seed)
+reference.py --random N    compares the program with it on N random inputs, lawful and damaged (a fixed seed); it is proved and built first
 """
 import datetime
+import os
+import platform
 import random
 import struct
 import subprocess
@@ -137,16 +139,32 @@ def random_input(rng):
     return data
 
 
+def built_program():
+    """The words that run the proved program as the launcher does: by the toolchain's loader, and its emulator where the machine is no x86-64."""
+    here = os.path.dirname(os.path.dirname(os.path.realpath(__file__)))
+    done = subprocess.run(['rt', 'check', 'list'], cwd=here, stdout=subprocess.PIPE, stderr=subprocess.STDOUT)
+    if done.returncode:
+        sys.exit(done.stdout.decode()[-2000:] + 'the program is not proved')
+    guide = subprocess.run(['rt', 'doc'], stdout=subprocess.PIPE, check=True).stdout.decode().strip()
+    tools = os.path.join(os.path.dirname(os.path.dirname(guide)), 'on', platform.machine(), 'toolchain')
+    emulator, loader = os.path.join(tools, 'bin/qemu-x86_64'), os.path.join(tools, 'lib/ld-linux-x86-64.so.2')
+    words = [emulator] if os.access(emulator, os.X_OK) else []
+    words += [loader, '--library-path', os.path.join(tools, 'lib')] if os.access(loader, os.X_OK) else []
+    return words + [os.path.join(here, 'target/bin/list')]
+
+
 def main():
     if sys.argv[1:2] == ['--random'] and len(sys.argv) == 3:
+        program = built_program()
         rng, seen = random.Random(2000), {}
         for i in range(int(sys.argv[2])):
             data = random_input(rng)
-            got = subprocess.run(['target/bin/list'], input=data, stdout=subprocess.PIPE, check=True).stdout
+            got = subprocess.run(program, input=data, stdout=subprocess.PIPE, check=True).stdout
             expected = listing(data)
             if got != expected:
-                open('target/differs.in', 'wb').write(data)
-                sys.exit('input %d differs; it is kept in target/differs.in' % i)
+                kept = os.path.join(os.path.dirname(program[-1]), 'differs.in')
+                open(kept, 'wb').write(data)
+                sys.exit('input %d differs; it is kept in %s' % (i, kept))
             kind = expected.decode().strip() if expected.startswith(b'R') else 'listed'
             seen[kind] = seen.get(kind, 0) + 1
         print('all the same:', ', '.join('%s %d' % x for x in sorted(seen.items())))
@@ -156,4 +174,5 @@ def main():
         sys.exit(__doc__)
 
 
-main()
+if __name__ == '__main__':
+    main()

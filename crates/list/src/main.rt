@@ -1,4 +1,4 @@
-// The listing program. With no input it says R 13.
+// The listing program (document 01, "The listing program").
 fn main() {
-    list_run::run();
+    list_run::list_from(0);
 }

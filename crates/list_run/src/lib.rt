@@ -1,4 +1,4 @@
-// All of the listing program: standard input to standard output.
+// All of the listing program: from a descriptor, which is standard input there, to standard output.
 ghost use mathlib.Core.Path.{_≡_};
 ghost use lib.ListN.{length};
 
@@ -36,8 +36,9 @@ fn print_all(input: &[u8]) {
     }
 }
 
-pub fn run() {
+// Lists the input that is read from a descriptor.
+pub fn list_from(fd: i32) {
     let mut input = input_room();
-    let n = io::read_full(0, &mut input);
+    let n = io::read_full(fd, &mut input);
     print_all(&input[..n]);
 }

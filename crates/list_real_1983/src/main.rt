@@ -1,4 +1,0 @@
-// Real series of 1983 to 1985.
-fn main() {
-    list_run::run();
-}

@@ -1,4 +1,0 @@
-// Real series of 2000.
-fn main() {
-    list_run::run();
-}

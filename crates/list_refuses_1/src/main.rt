@@ -1,4 +1,0 @@
-// A leap table with no entry: 1.
-fn main() {
-    list_run::run();
-}

@@ -1,4 +1,0 @@
-// A Moon with no segment: 2.
-fn main() {
-    list_run::run();
-}

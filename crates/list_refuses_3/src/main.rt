@@ -1,4 +1,0 @@
-// A coefficient out of range, in a second segment: 3.
-fn main() {
-    list_run::run();
-}

@@ -1,4 +1,0 @@
-// A segment that rises too slowly: 4.
-fn main() {
-    list_run::run();
-}

@@ -1,4 +1,0 @@
-// A joint that rises by 199: 5.
-fn main() {
-    list_run::run();
-}
