@@ -1,6 +1,7 @@
 -- Tests for worked examples that are evaluated inside a proof: a list of them, checked once by `T (all examples)`. Assumes nothing.
 use mathlib.Core.Bool.{Bool, true, false, _&&_}
 use mathlib.Core.List.{List, [], _∷_}
+use Prim.Native.Nat.{ℕ}
 use lib.Dec.{eqb}
 use lib.IntN.{ℤ, pos, negsuc}
 
@@ -13,3 +14,10 @@ same (negsuc a) (negsuc b) = eqb a b
 abbrev pub all : List Bool → Bool
 all [] = true
 all (b ∷ bs) = b && all bs
+
+-- two lists of numbers, bytes say
+abbrev pub sameNumbers : List ℕ → List ℕ → Bool
+sameNumbers [] [] = true
+sameNumbers [] (b ∷ bs) = false
+sameNumbers (a ∷ as′) [] = false
+sameNumbers (a ∷ as′) (b ∷ bs) = eqb a b && sameNumbers as′ bs
