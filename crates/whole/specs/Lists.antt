@@ -1,0 +1,42 @@
+-- A list with a part put over what stood there, and the laws of it: two parts one behind the other are one part, and what stands before and behind stays.
+-- Over any element. Assumes nothing.
+use mathlib.Core.Path.{_≡_, sym, ap, ap₂, _∙_}
+use mathlib.Core.List.{List, _++_, append-assoc}
+use Prim.Native.Nat.{ℕ, _+_, _≤_}
+use native.Mathlib.Omega.{arith}
+use lib.ListN.{length, take, drop, length-append, length-drop}
+use lib.Seq.{take-at, drop-at, drop-drop, length-take-le}
+
+-- l with `part` from `at` on
+abbrev pub placed : {A : Type 0} → ℕ → List A → List A → List A
+placed at part l = take at l ++ part ++ drop (at + length part) l
+
+module _ {A : Type 0} (l first : List A) (at : ℕ) where
+  -- what stands before a part and with it
+  front : at ≤ length l → length (take at l ++ first) ≡ at + length first
+  front h = length-append (take at l) first ∙ ap (λ (n : ℕ). n + length first) (length-take-le at l h)
+
+  pub placed-length : at + length first ≤ length l → length (placed at first l) ≡ length l
+  placed-length h = simp (length-append, length-drop, length-take-le at l (omega arith)) (omega arith)
+
+  pub take-placed : at ≤ length l → take (at + length first) (placed at first l) ≡ take at l ++ first
+  take-placed h = take-at (take at l ++ first) (drop (at + length first) l) (at + length first) (front h)
+
+  pub drop-placed : at ≤ length l → drop (at + length first) (placed at first l) ≡ drop (at + length first) l
+  drop-placed h = drop-at (take at l ++ first) (drop (at + length first) l) (at + length first) (front h)
+
+  -- two parts, one behind the other
+  pub placed-both : (second : List A) → at + (length first + length second) ≤ length l → placed (at + length first) second (placed at first l) ≡ placed at (first ++ second) l
+  placed-both second h =
+      ap₂ (λ (a b : List A). a ++ second ++ b) (take-placed (omega arith)) behind
+      ∙ ap (λ (x : List A). x ++ drop (at + length (first ++ second)) l) (append-assoc (take at l) first second)
+    where
+      total : at + length first + length second ≡ at + length (first ++ second)
+      total = rw length-append (omega arith)
+
+      behind : drop (at + length first + length second) (placed at first l) ≡ drop (at + length (first ++ second)) l
+      behind =
+          sym (drop-drop (length second) (at + length first) (placed at first l))
+          ∙ ap (drop (length second)) (drop-placed (omega arith))
+          ∙ drop-drop (length second) (at + length first) l
+          ∙ ap (λ (n : ℕ). drop n l) total
