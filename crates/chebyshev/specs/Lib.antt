@@ -6,6 +6,7 @@ pub mod Pell
 pub mod Forced
 pub mod Rounding
 pub mod Sums
+pub mod EndValues
 pub mod Bounds
 pub mod Nearness
 pub mod Steps
