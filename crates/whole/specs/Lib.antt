@@ -9,3 +9,5 @@ pub mod Distance
 pub mod Worked
 pub mod Booleans
 pub mod Evaluated
+pub mod Tests
+pub mod Below
