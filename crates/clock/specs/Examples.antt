@@ -13,9 +13,9 @@ use Rattle.whole.specs.Below.{every, lastBelow}
 use Rattle.times.specs.declared.Day.{Day}
 use Rattle.times.specs.declared.Second.{Second}
 use Rattle.times.specs.declared.Milli.{Milli}
-use Rattle.dates.specs.Calendar.{leapYear, leapYearsTo, newYear, monthLengths, guess, yearOf, monthsOver, dateInYear, dateFor}
+use Rattle.dates.specs.Calendar.{leapYear, leapYearsTo, newYear, monthLengths, yearOrNext, yearOf, monthsOver, dateInYear, dateFor}
 use Rattle.clock.specs.declared.ShownTime.{ShownTime}
-use Rattle.clock.specs.Leap.{firstEntry, nextEntry, goodEntry, leapLawful, holdsFrom, holds, entryUsed}
+use Rattle.clock.specs.Leap.{firstEntry, nextEntry, goodEntry, wholePairs, leapLawful, holdsFrom, holds, entryUsed}
 use Rattle.clock.specs.Clock.{convertible, tai, early, localMilli, reading, milliIn, dayOfMilli, shownOfMilli, dayIn, shownIn}
 use Rattle.clock.specs.Answers.{leapJudged, clockJudged, milliOf, dayOfSecond, shownOf}
 
@@ -59,7 +59,7 @@ abbrev unlawful : List ℤ
 unlawful = pos 0 ∷ pos 1001 ∷ []
 
 unfoldable pub examples : List Bool
-unfolding leapYear leapYearsTo newYear monthLengths guess yearOf monthsOver dateInYear dateFor floorDiv floorMod firstEntry nextEntry goodEntry every leapLawful holdsFrom holds lastBelow entryUsed convertible tai early localMilli reading milliIn dayOfMilli shownOfMilli dayIn shownIn leapJudged clockJudged milliOf dayOfSecond shownOf
+unfolding leapYear leapYearsTo newYear monthLengths yearOrNext yearOf monthsOver dateInYear dateFor floorDiv floorMod firstEntry nextEntry goodEntry every wholePairs leapLawful holdsFrom holds lastBelow entryUsed convertible tai early localMilli reading milliIn dayOfMilli shownOfMilli dayIn shownIn leapJudged clockJudged milliOf dayOfSecond shownOf
 examples =
     -- document 01's starred example, and the first second of 2000
     isDay (dayOfSecond table (second (negsuc 836106))) (negsuc 9)

@@ -17,7 +17,7 @@ ghost use Rattle.whole.specs.Ranges.{Within};
 ghost use Rattle.whole.specs.Tests.{isExactly};
 ghost use Rattle.refusals.specs.Verdict.{paperCheck};
 ghost use Rattle.dates.specs.Answers.{hasDate};
-ghost use Rattle.clock.specs.Leap.{entries, offset, utcDay, firstEntry, nextEntry, goodEntry, leapLawful, holdsFrom, holds, entryUsed};
+ghost use Rattle.clock.specs.Leap.{entries, offset, utcDay, firstEntry, nextEntry, goodEntry, wholePairs, leapLawful, holdsFrom, holds, entryUsed};
 ghost use Rattle.clock.specs.Clock.{convertible, tai, early, localMilli, reading, milliIn, dayIn, shownIn, dayOfMilli, shownOfMilli, Readable};
 ghost use Rattle.clock.specs.Answers.{clockJudged};
 
@@ -74,26 +74,40 @@ fn good_after(leap: &[i64], i: usize) -> bool
     )
 }
 
-// Whether a leap table keeps its rule.
-pub fn leap_lawful(leap: &[i64]) -> bool
-    ensures { λ r. ⌜ r ≡ leapLawful (now (leap .entry)) ⌝ }
+// Whether entry i is good.
+fn good_entry(leap: &[i64], i: usize) -> bool
+    requires { ⌜ i < entries (now leap) ⌝ }
+    ensures { λ r. ⌜ r ≡ goodEntry (now (leap .entry)) i ⌝ }
 {
-    let words = leap.len();
+    if i == 0 {
+        return first_entry(leap[0], leap[1]);
+    }
+    good_after(leap, i - 1)
+}
+
+// Whether so many words may be a table: 1 to 64 entries in whole pairs.
+fn whole_pairs(words: usize) -> bool
+    ensures { λ r. ⌜ r ≡ wholePairs words ⌝ }
+{
     if 0 < words % 2 {
         return false;
     }
     if words < 2 {
         return false;
     }
-    if 128 < words {
-        return false;
-    }
-    if !first_entry(leap[0], leap[1]) {
+    words <= 128
+}
+
+// Whether a leap table keeps its rule.
+pub fn leap_lawful(leap: &[i64]) -> bool
+    ensures { λ r. ⌜ r ≡ leapLawful (now (leap .entry)) ⌝ }
+{
+    if !whole_pairs(leap.len()) {
         return false;
     }
     let mut i: usize = 0;
-    while 2 * i + 3 < words {
-        if !good_after(leap, i) {
+    while i < leap.len() / 2 {
+        if !good_entry(leap, i) {
             return false;
         }
         i += 1;

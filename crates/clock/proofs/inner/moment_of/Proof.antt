@@ -1,8 +1,6 @@
 -- `clock::inner::moment_of` meets its contract. Assumes nothing.
-use mathlib.Core.Path.{refl}
-use mathlib.Core.List.{[], _∷_}
+use mir.Facts.{toZ-ofZ}
 use Rattle.whole.specs.Ranges.{fits, bounds, bound-back}
-use Rattle.whole.specs.Solver.{⇑, ring, value-of}
 use Rattle.clock.proofs.inner.moment_of.Statement.{statement}
 use Rattle.clock.proofs.inner.moment_of.Tie as tie
 
@@ -16,9 +14,7 @@ mul-result-2 : tie.Need-mul-result-2
 mul-result-2 c = fits (search (bounds, bound-back (mul-result c), bound-back (add-result c)) depth 9) tt
 
 returns : tie.Need-returns
-returns c =
-    let ρ = c .args .day ∷ c .args .offset ∷ [] in
-    ⇑ ρ (search (ring, value-of ρ (mul-result c), value-of ρ (add-result c), value-of ρ (mul-result-2 c)) depth 12) refl
+returns c = rw (toZ-ofZ (mul-result-2 c), toZ-ofZ (add-result c), toZ-ofZ (mul-result c), toZ-ofZ (c .fits .day), toZ-ofZ (c .fits .offset))
 
 pub moment-of-spec : {M : Type 1} → statement M
 moment-of-spec = tie.close (tie.spec mul-result add-result mul-result-2 returns)

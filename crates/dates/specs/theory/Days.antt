@@ -1,20 +1,21 @@
 -- Days of a year: a date is its year and how many days of that year are over, and the other way round. Assumes nothing.
 use Prim.Native.Nat.{ℕ, zero, suc, _+_, _-_, _<_}
 use mathlib.Core.Path.{_≡_, refl, ap, _∙_}
-use mathlib.Core.Bool.{Bool, true, false, _&&_}
+use mathlib.Core.Bool.{Bool, true, false}
 use mathlib.Core.List.{[], _∷_}
 use lib.IntN.{ℤ, pos, negsuc, natAbs, _+ℤ_, _-ℤ_}
-use lib.Signed.{leZ, _≤ℤ_}
+use lib.Signed.{_≤ℤ_}
 use lib.ListN.{length, getD, take}
 use native.Mathlib.Omega.{arith}
-use Rattle.whole.specs.Booleans.{both}
+use Rattle.whole.specs.Booleans.{both, both-hold}
+use Rattle.whole.specs.Tests.{inRange, in-range-says, says-in-range}
 use Rattle.whole.specs.Parts.{ℤ-rules, ≤→, ≡→, _⩽_, _≺_}
 use Rattle.whole.specs.Laws.{abs-of-nonneg}
-use Rattle.whole.specs.Solver.{⇑, ⇓, ring, le-yes, yes-le}
+use Rattle.whole.specs.Solver.{⇑, ⇓, ring}
 use Rattle.dates.specs.declared.Date.{Date}
-use Rattle.dates.specs.Calendar.{leapYear, newYear, monthLengths, lengthsIn, sum, yearLength, yearOf, monthLength, daysBefore, monthsOver, validDate, numberOf, valid, dayNumber, dateInYear, dateFor}
-use Rattle.dates.proofs.Years.{next-year, year-found, year-unique}
-use Rattle.dates.proofs.Months.{InMonth, month-found, month-unique, within-all}
+use Rattle.dates.specs.Calendar.{leapYear, newYear, monthLengths, lengthsIn, total, yearLength, yearOf, monthLength, daysBefore, monthsOver, validDate, numberOf, valid, dayNumber, dateInYear, dateFor}
+use Rattle.dates.specs.theory.Years.{next-year, year-found, year-unique}
+use Rattle.dates.specs.theory.Months.{InMonth, month-found, month-unique, within-all}
 
 -- ---- what `valid` says
 pub record Valid (y m d : ℤ) : Type 0 where
@@ -26,14 +27,17 @@ pub record Valid (y m d : ℤ) : Type 0 where
 pub valid-says : (y m d : ℤ) → validDate y m d ≡ true → Valid y m d
 unfolding validDate
 valid-says y m d e =
-    let a = both (leZ (pos 1) m) (leZ m (pos 12) && (leZ (pos 1) d && leZ d (pos (monthLength y m)))) e in
-    let b = both (leZ m (pos 12)) (leZ (pos 1) d && leZ d (pos (monthLength y m))) (a .1) in
-    let c = both (leZ (pos 1) d) (leZ d (pos (monthLength y m))) (b .1) in
-    record { month-from = le-yes (a .0); month-to = le-yes (b .0); day-from = le-yes (c .0); day-to = le-yes (c .1) }
+    let b = both (inRange (pos 1) (pos 12) m) (inRange (pos 1) (pos (monthLength y m)) d) e in
+    let month = in-range-says (pos 1) (pos 12) m (b .0) in
+    let day = in-range-says (pos 1) (pos (monthLength y m)) d (b .1) in
+    record { month-from = month .0; month-to = month .1; day-from = day .0; day-to = day .1 }
 
 pub says-valid : {y m d : ℤ} → Valid y m d → validDate y m d ≡ true
 unfolding validDate
-says-valid {y} {m} {d} v = rw (yes-le (v .month-from), yes-le (v .month-to), yes-le (v .day-from), yes-le (v .day-to))
+says-valid {y} {m} {d} v =
+    both-hold (inRange (pos 1) (pos 12) m) (inRange (pos 1) (pos (monthLength y m)) d)
+    (says-in-range (pos 1) (pos 12) m (v .month-from) (v .month-to))
+    (says-in-range (pos 1) (pos (monthLength y m)) d (v .day-from) (v .day-to))
 
 -- ---- months by their place in the list
 pub twelve : (leap : Bool) → length (monthLengths leap) ≡ 12
@@ -45,9 +49,9 @@ pub length-at : (y : ℤ) (i : ℕ) → monthLength y (pos (suc i)) ≡ getD (le
 unfolding monthLength
 length-at y i = let e : suc i - 1 ≡ i = omega arith in ap (λ (j : ℕ). getD (lengthsIn y) j 0) e
 
-pub before-at : (y : ℤ) (i : ℕ) → daysBefore y (pos (suc i)) ≡ sum (take i (lengthsIn y))
+pub before-at : (y : ℤ) (i : ℕ) → daysBefore y (pos (suc i)) ≡ total (take i (lengthsIn y))
 unfolding daysBefore
-before-at y i = let e : suc i - 1 ≡ i = omega arith in ap (λ (j : ℕ). sum (take j (lengthsIn y))) e
+before-at y i = let e : suc i - 1 ≡ i = omega arith in ap (λ (j : ℕ). total (take j (lengthsIn y))) e
 
 -- a number that is not below 1 is one more than a count
 pub from-one : (z : ℤ) → pos 1 ⩽ z → z ≡ pos (suc (natAbs z - 1))
@@ -55,9 +59,9 @@ from-one (pos zero) h = absurd (omega ℤ-rules)
 from-one (pos (suc n)) h = ap (λ (i : ℕ). pos (suc i)) (omega arith)
 from-one (negsuc n) h = absurd (omega ℤ-rules)
 
-pub number-at : (y : ℤ) (i j : ℕ) → numberOf y (pos (suc i)) (pos (suc j)) ≡ newYear y +ℤ pos (sum (take i (lengthsIn y)) + j)
+pub number-at : (y : ℤ) (i j : ℕ) → numberOf y (pos (suc i)) (pos (suc j)) ≡ newYear y +ℤ pos (total (take i (lengthsIn y)) + j)
 unfolding numberOf
-number-at y i j = let ρ = newYear y ∷ pos (sum (take i (lengthsIn y))) ∷ pos j ∷ pos (suc j) ∷ [] in rw (before-at y i) (⇑ ρ (search ring depth 9) (omega arith))
+number-at y i j = let ρ = newYear y ∷ pos (total (take i (lengthsIn y))) ∷ pos j ∷ pos (suc j) ∷ [] in rw (before-at y i) (⇑ ρ (search ring depth 9) (omega arith))
 
 -- ---- the date when k days of year y are over
 module _ (y : ℤ) (k : ℕ) (h : k < yearLength y) where
@@ -68,8 +72,8 @@ module _ (y : ℤ) (k : ℕ) (h : k < yearLength y) where
   unfolding dateInYear
   number-in-year =
       let over = monthsOver (lengthsIn y) k in
-      let e : sum (take over (lengthsIn y)) + (k - sum (take over (lengthsIn y))) ≡ k = omega (arith, here) in
-      number-at y over (k - sum (take over (lengthsIn y))) ∙ ap (λ (t : ℕ). newYear y +ℤ pos t) e
+      let e : total (take over (lengthsIn y)) + (k - total (take over (lengthsIn y))) ≡ k = omega (arith, here) in
+      number-at y over (k - total (take over (lengthsIn y))) ∙ ap (λ (t : ℕ). newYear y +ℤ pos t) e
 
   facts : Valid (dateInYear y k .year) (dateInYear y k .month) (dateInYear y k .day)
   unfolding dateInYear
@@ -116,12 +120,12 @@ abbrev pub dateAt : ℤ → ℕ → ℕ → Date
 dateAt y i j = record { year = y; month = pos (suc i); day = pos (suc j) }
 
 module _ (y : ℤ) (i j : ℕ) (hi : i < length (lengthsIn y)) (hj : j < getD (lengthsIn y) i 0) where
-  pub place-within : sum (take i (lengthsIn y)) + j < yearLength y
+  pub place-within : total (take i (lengthsIn y)) + j < yearLength y
   place-within = within-all (lengthsIn y) i j hi hj
 
-  pub date-at : dateInYear y (sum (take i (lengthsIn y)) + j) ≡ dateAt y i j
+  pub date-at : dateInYear y (total (take i (lengthsIn y)) + j) ≡ dateAt y i j
   unfolding dateInYear
-  date-at = let e : sum (take i (lengthsIn y)) + j - sum (take i (lengthsIn y)) ≡ j = omega arith in rw (month-unique (lengthsIn y) i j hi hj, e)
+  date-at = let e : total (take i (lengthsIn y)) + j - total (take i (lengthsIn y)) ≡ j = omega arith in rw (month-unique (lengthsIn y) i j hi hj, e)
 
 pub record Placed (d : Date) : Type 0 where
   pub i : ℕ

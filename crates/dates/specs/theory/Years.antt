@@ -1,6 +1,6 @@
 -- Where years begin: a year begins its own length before the next, and the year of a day is the one in which it lies. Assumes nothing.
 use Prim.Native.Nat.{ℕ, _-_, _<_}
-use mathlib.Core.Path.{_≡_, refl, sym, ap, _∙_, subst}
+use mathlib.Core.Path.{_≡_, refl, ap, _∙_, subst}
 use mathlib.Core.Bool.{Bool, true, false, not, cond, _&&_, _||_}
 use mathlib.Core.List.{List, [], _∷_}
 use mathlib.Core.Logic.{⊎-elim}
@@ -8,21 +8,22 @@ use lib.IntN.{ℤ, pos, _+ℤ_, _-ℤ_, _*ℤ_}
 use lib.Signed.{ltZ, _≤ℤ_, _<ℤ_}
 use borrow.Author.Tests.{eqb-true, eqb-false, eq-eqb}
 use native.Mathlib.Omega.{arith}
+use Rattle.whole.specs.Booleans.{not-both}
 use Rattle.whole.specs.Parts.{_⩽_, _≺_}
 use Rattle.whole.specs.Laws.{≤-total, ≤-antisymm, ≤-of-≡}
 use Rattle.whole.specs.Solver.{⇑, ⇓, ring, lt-yes, lt-no}
 use Rattle.whole.specs.Floor.{floorDiv, floorMod, floorDiv-floorMod, floorMod-lt, floorDiv-low, floorDiv-high, floorDiv-unique, floorMod-unique}
-use Rattle.dates.specs.Calendar.{divides, leapYear, leapYearsTo, newYear, monthLengths, sum, yearLength, guess, yearOf}
+use Rattle.dates.specs.Calendar.{divides, leapYear, leapYearsTo, newYear, monthLengths, total, yearLength, yearOrNext, yearOf}
 
 -- ---- how many multiples of m there are: one more at y exactly where m divides y
-more : (y : ℤ) (m : ℕ) → 0 < m → divides m y ≡ true → floorDiv (y -ℤ pos 1) m ≡ floorDiv y m -ℤ pos 1
-more y m h e = floorDiv-unique (y -ℤ pos 1) (floorDiv y m -ℤ pos 1) m (m - 1) (omega arith) (⇑ ρ (search ring depth 9) (omega (arith, ⇓ ρ (floorDiv-floorMod y m h) (search ring), eqb-true (floorMod y m) 0 e)))
+at-multiple : (y : ℤ) (m : ℕ) → 0 < m → divides m y ≡ true → floorDiv (y -ℤ pos 1) m ≡ floorDiv y m -ℤ pos 1
+at-multiple y m h e = floorDiv-unique (y -ℤ pos 1) (floorDiv y m -ℤ pos 1) m (m - 1) (omega arith) (⇑ ρ (search ring depth 9) (omega (arith, ⇓ ρ (floorDiv-floorMod y m h) (search ring), eqb-true (floorMod y m) 0 e)))
   where
     ρ : List ℤ
     ρ = y ∷ floorDiv y m ∷ pos m ∷ pos (floorMod y m) ∷ pos (m - 1) ∷ []
 
-same : (y : ℤ) (m : ℕ) → 0 < m → divides m y ≡ false → floorDiv (y -ℤ pos 1) m ≡ floorDiv y m
-same y m h e = let no = eqb-false (floorMod y m) 0 e in floorDiv-unique (y -ℤ pos 1) (floorDiv y m) m (floorMod y m - 1) (omega (arith, floorMod-lt y m h)) (⇑ ρ (search ring depth 9) (omega (arith, ⇓ ρ (floorDiv-floorMod y m h) (search ring), no)))
+elsewhere : (y : ℤ) (m : ℕ) → 0 < m → divides m y ≡ false → floorDiv (y -ℤ pos 1) m ≡ floorDiv y m
+elsewhere y m h e = let no = eqb-false (floorMod y m) 0 e in floorDiv-unique (y -ℤ pos 1) (floorDiv y m) m (floorMod y m - 1) (omega (arith, floorMod-lt y m h)) (⇑ ρ (search ring depth 9) (omega (arith, ⇓ ρ (floorDiv-floorMod y m h) (search ring), no)))
   where
     ρ : List ℤ
     ρ = y ∷ floorDiv y m ∷ pos m ∷ pos (floorMod y m) ∷ pos (floorMod y m - 1) ∷ []
@@ -39,27 +40,24 @@ fourth-is-century y e = eq-eqb (floorMod y 100) 0 (floorMod-unique y (pos 4 *ℤ
     ρ : List ℤ
     ρ = y ∷ floorDiv y 400 ∷ pos (floorMod y 400) ∷ []
 
-clash : {X : Type 0} {b : Bool} → b ≡ true → b ≡ false → X
-clash p q = let z : _≡_ {A = Bool} true false = sym p ∙ q in let one : _≡_ {A = ℕ} 0 1 = cc in absurd (omega arith)
-
 one-more : (y : ℤ) (b4 b100 b400 : Bool) → divides 4 y ≡ b4 → divides 100 y ≡ b100 → divides 400 y ≡ b400
     → leapYearsTo y ≡ leapYearsTo (y -ℤ pos 1) +ℤ cond (b4 && (not b100 || b400)) (pos 1) (pos 0)
 unfolding leapYearsTo
-one-more y true true true p q r = let ρ = floorDiv y 4 ∷ floorDiv y 100 ∷ floorDiv y 400 ∷ [] in rw (more y 4 (omega arith) p, more y 100 (omega arith) q, more y 400 (omega arith) r) (⇑ ρ (search ring depth 12) refl)
-one-more y true true false p q r = let ρ = floorDiv y 4 ∷ floorDiv y 100 ∷ floorDiv y 400 ∷ [] in rw (more y 4 (omega arith) p, more y 100 (omega arith) q, same y 400 (omega arith) r) (⇑ ρ (search ring depth 12) refl)
-one-more y true false true p q r = clash (fourth-is-century y r) q
-one-more y true false false p q r = let ρ = floorDiv y 4 ∷ floorDiv y 100 ∷ floorDiv y 400 ∷ [] in rw (more y 4 (omega arith) p, same y 100 (omega arith) q, same y 400 (omega arith) r) (⇑ ρ (search ring depth 12) refl)
-one-more y false true true p q r = clash (century-is-fourth y q) p
-one-more y false true false p q r = clash (century-is-fourth y q) p
-one-more y false false true p q r = clash (fourth-is-century y r) q
-one-more y false false false p q r = let ρ = floorDiv y 4 ∷ floorDiv y 100 ∷ floorDiv y 400 ∷ [] in rw (same y 4 (omega arith) p, same y 100 (omega arith) q, same y 400 (omega arith) r) (⇑ ρ (search ring depth 12) refl)
+one-more y true true true p q r = let ρ = floorDiv y 4 ∷ floorDiv y 100 ∷ floorDiv y 400 ∷ [] in rw (at-multiple y 4 (omega arith) p, at-multiple y 100 (omega arith) q, at-multiple y 400 (omega arith) r) (⇑ ρ (search ring depth 12) refl)
+one-more y true true false p q r = let ρ = floorDiv y 4 ∷ floorDiv y 100 ∷ floorDiv y 400 ∷ [] in rw (at-multiple y 4 (omega arith) p, at-multiple y 100 (omega arith) q, elsewhere y 400 (omega arith) r) (⇑ ρ (search ring depth 12) refl)
+one-more y true false true p q r = not-both (fourth-is-century y r) q
+one-more y true false false p q r = let ρ = floorDiv y 4 ∷ floorDiv y 100 ∷ floorDiv y 400 ∷ [] in rw (at-multiple y 4 (omega arith) p, elsewhere y 100 (omega arith) q, elsewhere y 400 (omega arith) r) (⇑ ρ (search ring depth 12) refl)
+one-more y false true true p q r = not-both (century-is-fourth y q) p
+one-more y false true false p q r = not-both (century-is-fourth y q) p
+one-more y false false true p q r = not-both (fourth-is-century y r) q
+one-more y false false false p q r = let ρ = floorDiv y 4 ∷ floorDiv y 100 ∷ floorDiv y 400 ∷ [] in rw (elsewhere y 4 (omega arith) p, elsewhere y 100 (omega arith) q, elsewhere y 400 (omega arith) r) (⇑ ρ (search ring depth 12) refl)
 
 pub leap-counts : (y : ℤ) → leapYearsTo y ≡ leapYearsTo (y -ℤ pos 1) +ℤ cond (leapYear y) (pos 1) (pos 0)
 unfolding leapYear
 leap-counts y = one-more y (divides 4 y) (divides 100 y) (divides 400 y) refl refl refl
 
 -- ---- the next year begins a year's length later
-lengths-sum : (leap : Bool) → pos (sum (monthLengths leap)) ≡ pos 365 +ℤ cond leap (pos 1) (pos 0)
+lengths-sum : (leap : Bool) → pos (total (monthLengths leap)) ≡ pos 365 +ℤ cond leap (pos 1) (pos 0)
 unfolding monthLengths
 lengths-sum true = refl
 lengths-sum false = refl
@@ -100,30 +98,30 @@ pub in-order : {y z : ℤ} → y ⩽ z → newYear y ⩽ newYear z
 in-order {y} {z} h = ⊎-elim (λ (k : z ≤ℤ y). ≤-of-≡ (ap newYear (≤-antisymm h k))) (λ (k : y <ℤ z). let ρ = y ∷ z ∷ newYear y ∷ newYear z ∷ [] in ⇑ ρ (search ring) (omega (arith, ⇓ ρ k (search ring), ⇓ ρ (high y) (search ring depth 9), ⇓ ρ (low z) (search ring depth 9)))) (≤-total z y)
 
 -- ---- the year of a day
--- the guess is the year or the one after it
+-- the yearOrNext is the year or the one after it
 module _ (n : ℤ) where
-  not-late : newYear (guess n -ℤ pos 1) ⩽ n
-  unfolding guess
+  not-late : newYear (yearOrNext n -ℤ pos 1) ⩽ n
+  unfolding yearOrNext
   not-late =
       let q = floorDiv (pos 400 *ℤ n +ℤ pos 396) 146097 in
       let ρ = n ∷ q ∷ newYear (pos 2000 +ℤ q -ℤ pos 1) ∷ [] in
       ⇑ ρ (search ring) (omega (arith, ⇓ ρ (floorDiv-low (pos 400 *ℤ n +ℤ pos 396) 146097 (omega arith)) (search ring depth 9), ⇓ ρ (high (pos 2000 +ℤ q -ℤ pos 1)) (search ring depth 12)))
 
-  not-early : n ≺ newYear (guess n +ℤ pos 1)
-  unfolding guess
+  not-early : n ≺ newYear (yearOrNext n +ℤ pos 1)
+  unfolding yearOrNext
   not-early =
       let q = floorDiv (pos 400 *ℤ n +ℤ pos 396) 146097 in
       let ρ = n ∷ q ∷ newYear (pos 2000 +ℤ q +ℤ pos 1) ∷ [] in
       ⇑ ρ (search ring) (omega (arith, ⇓ ρ (floorDiv-high (pos 400 *ℤ n +ℤ pos 396) 146097 (omega arith)) (search ring depth 9), ⇓ ρ (low (pos 2000 +ℤ q +ℤ pos 1)) (search ring depth 12)))
 
-  picked : (b : Bool) → ltZ n (newYear (guess n)) ≡ b → (newYear (cond b (guess n -ℤ pos 1) (guess n)) ⩽ n) × (n ≺ newYear (cond b (guess n -ℤ pos 1) (guess n) +ℤ pos 1))
-  picked true e = (not-late, subst (λ (y : ℤ). n ≺ newYear y) (⇑ (guess n ∷ []) (search ring depth 9) refl) (lt-yes e))
+  picked : (b : Bool) → ltZ n (newYear (yearOrNext n)) ≡ b → (newYear (cond b (yearOrNext n -ℤ pos 1) (yearOrNext n)) ⩽ n) × (n ≺ newYear (cond b (yearOrNext n -ℤ pos 1) (yearOrNext n) +ℤ pos 1))
+  picked true e = (not-late, subst (λ (y : ℤ). n ≺ newYear y) (⇑ (yearOrNext n ∷ []) (search ring depth 9) refl) (lt-yes e))
   picked false e = (lt-no e, not-early)
 
   -- day n lies in the year found
   pub year-found : (newYear (yearOf n) ⩽ n) × (n ≺ newYear (yearOf n +ℤ pos 1))
   unfolding yearOf
-  year-found = picked (ltZ n (newYear (guess n))) refl
+  year-found = picked (ltZ n (newYear (yearOrNext n))) refl
 
 -- a day lies in one year only
 one-year : {n y z : ℤ} → newYear y ⩽ n → n ≺ newYear (z +ℤ pos 1) → y ⩽ z

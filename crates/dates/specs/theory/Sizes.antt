@@ -4,22 +4,22 @@ use mathlib.Core.Path.{_≡_}
 use mathlib.Core.Bool.{Bool, true, false, cond}
 use mathlib.Core.List.{List, [], _∷_}
 use lib.IntN.{ℤ, pos, negsuc, natAbs, _-ℤ_}
-use lib.Signed.{leZ, ltZ}
+use lib.Signed.{ltZ}
 use lib.ListN.{getD}
 use native.Mathlib.Omega.{arith}
-use Rattle.whole.specs.Parts.{ℤ-rules, _⩽_}
+use Rattle.whole.specs.Parts.{ℤ-rules}
 use Rattle.whole.specs.Laws.{abs-of-nonneg}
-use Rattle.whole.specs.Solver.{⇑, ⇓, ring, le-yes}
+use Rattle.whole.specs.Solver.{⇑, ⇓, ring}
 use Rattle.whole.specs.Ranges.{Within, within, bounds}
 use Rattle.whole.specs.Floor.{bound-floor}
-use Rattle.dates.specs.Calendar.{leapYear, newYear, monthLengths, lengthsIn, sum, yearLength, guess, yearOf, monthLength, daysBefore}
+use Rattle.whole.specs.Tests.{in-range-says}
+use Rattle.dates.specs.Calendar.{leapYear, leapYearsTo, newYear, monthLengths, lengthsIn, total, yearLength, yearOrNext, yearOf, monthLength, daysBefore}
 use Rattle.dates.specs.Answers.{hasDate}
-use Rattle.dates.proofs.Months.{take-below}
-use Rattle.whole.specs.Booleans.{both}
-use Rattle.dates.proofs.Days.{Valid}
+use Rattle.dates.specs.theory.Months.{take-below}
+use Rattle.dates.specs.theory.Days.{Valid}
 
 -- ---- months
-lengths-sum : (leap : Bool) → sum (monthLengths leap) < 400
+lengths-sum : (leap : Bool) → total (monthLengths leap) < 400
 unfolding monthLengths
 lengths-sum true = omega arith
 lengths-sum false = omega arith
@@ -27,7 +27,7 @@ lengths-sum false = omega arith
 pub year-sum : (y : ℤ) → yearLength y < 400
 year-sum y = lengths-sum (leapYear y)
 
-one-below-all : (ls : List ℕ) (i : ℕ) → getD ls i 0 ≤ sum ls
+one-below-all : (ls : List ℕ) (i : ℕ) → getD ls i 0 ≤ total ls
 one-below-all [] zero = omega arith
 one-below-all [] (suc i) = omega arith
 one-below-all (l ∷ ls) zero = omega arith
@@ -48,16 +48,30 @@ day-small y m d v = record { within = let ρ = d ∷ pos (natAbs d) ∷ [] in om
 pub range-small : (n : ℤ) → hasDate n ≡ true → Within 200000 n
 unfolding hasDate
 range-small n e =
-    let b = both (leZ (negsuc 149999) n) (leZ n (pos 200000)) e in
-    let l : negsuc 149999 ⩽ n = le-yes (b .0) in
-    let h : n ⩽ pos 200000 = le-yes (b .1) in
+    let r = in-range-says (negsuc 149999) (pos 200000) n e in
     let ρ = n ∷ [] in
-    record { within = ⇑ ρ (search ring) (omega (arith, ⇓ ρ l (search ring), ⇓ ρ h (search ring))) }
+    record { within = ⇑ ρ (search ring) (omega (arith, ⇓ ρ (r .0) (search ring), ⇓ ρ (r .1) (search ring))) }
+
+pub near-small : (n : ℤ) → Within 200000 n → Within 100000000 (yearOrNext n)
+unfolding yearOrNext
+near-small n h = within (search (bounds, bound-floor) depth 9) tt
 
 pub year-small : (n : ℤ) → Within 200000 n → Within 1000000000 (yearOf n)
-unfolding yearOf guess
-year-small n h = go (ltZ n (newYear (guess n)))
+unfolding yearOf
+year-small n h = go (near-small n h) (ltZ n (newYear (yearOrNext n)))
   where
-    go : (b : Bool) → Within 1000000000 (cond b (guess n -ℤ pos 1) (guess n))
-    go true = within (search (bounds, bound-floor) depth 9) tt
-    go false = within (search (bounds, bound-floor) depth 9) tt
+    go : Within 100000000 (yearOrNext n) → (b : Bool) → Within 1000000000 (cond b (yearOrNext n -ℤ pos 1) (yearOrNext n))
+    go small true = within (search bounds) tt
+    go small false = within (search bounds) tt
+
+-- leap years, and the first of January of a year
+pub leap-years-small : (y : ℤ) → Within 2000000000 y → Within 6000000000 (leapYearsTo y)
+unfolding leapYearsTo
+leap-years-small y h = within (search (bounds, bound-floor) depth 9) tt
+
+pub new-year-small : (y : ℤ) → Within 1000000000 y → Within 1000000000000 (newYear y)
+unfolding newYear
+new-year-small y h =
+    let before : Within 2000000000 (y -ℤ pos 1) = within (search bounds) tt in
+    let leap = leap-years-small (y -ℤ pos 1) before in
+    within (search bounds depth 9) tt
