@@ -111,3 +111,10 @@ below-zero {a} f h = go a (f .sfits) h
     go : (a : ℤ) → mag a < 2 ^ 63 → a <ℤ pos 0 → SFits w64 (negsuc 0 -ℤ a) × (T (nonNeg (negsuc 0 -ℤ a)) × (Fits w64 (natAbs (negsuc 0 -ℤ a)) × (natAbs (negsuc 0 -ℤ a) + 1 ≡ natAbs a)))
     go (pos n) f h = absurd (omega (arith, <→ h))
     go (negsuc n) f h = rw (back-up n) (record { sfits = f }, (tt, (record { fits = omega arith }, omega arith)))
+
+-- a signed local holds bits: the range that a call's `.ok` tells of its result, and the result read back from its bits
+pub fits-of : (z : ℤ) → mag z < 2 ^ 63 → SFits w64 z
+fits-of z h = record { sfits = h }
+
+pub back : (z : ℤ) → mag z < 2 ^ 63 → toZ w64 (ofZ w64 z) ≡ z
+back z h = toZ-ofZ (fits-of z h)
