@@ -1,4 +1,3 @@
 pub mod Halves
 pub mod Lent
-pub mod Bits
 pub mod Bracket

@@ -5,8 +5,9 @@ use mir.Facts.{toZ-ofZ}
 use mir.Syntax.{w64}
 use mir.Val.{SFits}
 use Rattle.refusals.specs.Verdict.{refused-first, accepted-first, accepted-is}
-use Rattle.series.specs.Known.{ranged-known}
-use Rattle.series.specs.Acceptance.{judged}
+use Rattle.series.specs.theory.Known.{ranged-known}
+use Rattle.series.specs.Series.{series}
+use Rattle.series.specs.Acceptance.{seriesJudged}
 use Rattle.series.proofs.accept.Statement.{statement}
 use Rattle.series.proofs.accept.Tie as tie
 
@@ -17,7 +18,7 @@ enum-known-shape : tie.Need-enum-known-shape
 enum-known-shape c = search needs
 
 returns : tie.Need-returns
-unfolding judged
+unfolding seriesJudged
 returns c =
     let s = c .before .before .before .before .before in
     let fs : SFits w64 (s .args .start .0) = record { sfits = c .before .before .before .before .struct-told .given .0 .1 } in
@@ -33,7 +34,7 @@ enum-known-ranges : tie.Need-enum-known-ranges
 enum-known-ranges c = search needs
 
 returns-2 : tie.Need-returns-2
-unfolding judged
+unfolding seriesJudged
 returns-2 c =
     let s = c .before .before .before .before .before .before .before .before in
     let fs : SFits w64 (s .args .start .0) = record { sfits = c .before .before .before .before .before .before .before .struct-told .given .0 .1 } in
@@ -46,13 +47,13 @@ slopes-requires : tie.Need-slopes-requires
 slopes-requires c κs =
     let s = c .before .before .before .before .before .before .before in
     let fs : SFits w64 (s .args .start .0) = record { sfits = c .before .before .before .before .before .before .struct-told .given .0 .1 } in
-    ranged-known (s .args .body) (s .args .start .0) (s .args .coefs .now) (accepted-is (rw (toZ-ofZ fs) at (c .before .before .before .before .before .shape .ensures)) (c .before .before .before .enum-told .given .1)) (accepted-is (c .before .before .ranges .ensures) (c .enum-told2 .given .1))
+    ranged-known (series (s .args .body) (s .args .start .0) (s .args .coefs .now)) (accepted-is (rw (toZ-ofZ fs) at (c .before .before .before .before .before .shape .ensures)) (c .before .before .before .enum-told .given .1)) (accepted-is (c .before .before .ranges .ensures) (c .enum-told2 .given .1))
 
 enum-known-slopes : tie.Need-enum-known-slopes
 enum-known-slopes c = search needs
 
 returns-3 : tie.Need-returns-3
-unfolding judged
+unfolding seriesJudged
 returns-3 c =
     let s = c .before .before .before .before .before .before .before .before .before .before .before in
     let fs : SFits w64 (s .args .start .0) = record { sfits = c .before .before .before .before .before .before .before .before .before .before .struct-told .given .0 .1 } in
@@ -67,10 +68,10 @@ joints-requires : tie.Need-joints-requires
 joints-requires c κs =
     let s = c .before .before .before .before .before .before .before .before .before .before in
     let fs : SFits w64 (s .args .start .0) = record { sfits = c .before .before .before .before .before .before .before .before .before .struct-told .given .0 .1 } in
-    ranged-known (s .args .body) (s .args .start .0) (s .args .coefs .now) (accepted-is (rw (toZ-ofZ fs) at (c .before .before .before .before .before .before .before .before .shape .ensures)) (c .before .before .before .before .before .before .enum-told .given .1)) (accepted-is (c .before .before .before .before .before .ranges .ensures) (c .before .before .before .enum-told2 .given .1))
+    ranged-known (series (s .args .body) (s .args .start .0) (s .args .coefs .now)) (accepted-is (rw (toZ-ofZ fs) at (c .before .before .before .before .before .before .before .before .shape .ensures)) (c .before .before .before .before .before .before .enum-told .given .1)) (accepted-is (c .before .before .before .before .before .ranges .ensures) (c .before .before .before .enum-told2 .given .1))
 
 returns-4 : tie.Need-returns-4
-unfolding judged
+unfolding seriesJudged
 returns-4 c =
     let s = c .before .before .before .before .before .before .before .before .before .before .before in
     let fs : SFits w64 (s .args .start .0) = record { sfits = c .before .before .before .before .before .before .before .before .before .before .struct-told .given .0 .1 } in

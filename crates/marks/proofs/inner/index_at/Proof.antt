@@ -4,9 +4,9 @@ use borrow.Author.Needs.{needs}
 use Rattle.whole.specs.Floor.{floorDiv}
 use Rattle.series.specs.declared.Body.{Body}
 use Rattle.series.specs.Bodies.{numbers}
-use Rattle.series.specs.Series.{valueAt}
+use Rattle.series.specs.Series.{series, valueAt}
 use Rattle.marks.specs.Marks.{indexAt}
-use Rattle.marks.proofs.Bits.{back}
+use Rattle.whole.specs.Ranges.{back}
 use Rattle.marks.proofs.inner.index_at.Statement.{statement}
 use Rattle.marks.proofs.inner.index_at.Tie as tie
 
@@ -32,7 +32,7 @@ returns c =
     let start = value .before in
     back (c .floor-div .result) (c .floor-div .ok)
     ∙ (rw (back (value .value .result) (value .value .ok), value .value .ensures) at (c .floor-div .ensures))
-    ∙ ap (λ (b : Body). floorDiv (valueAt (start .args .body) (start .args .start .0) (start .args .coefs .now) (start .args .second .0)) (numbers b .mark)) (sym (c .before .enum-told .given .1))
+    ∙ ap (λ (b : Body). floorDiv (valueAt (series (start .args .body) (start .args .start .0) (start .args .coefs .now)) (start .args .second .0)) (numbers b .markSize)) (sym (c .before .enum-told .given .1))
 
 returns-2 : tie.Need-returns-2
 unfolding indexAt
@@ -41,7 +41,7 @@ returns-2 c =
     let start = value .before in
     back (c .floor-div2 .result) (c .floor-div2 .ok)
     ∙ (rw (back (value .value .result) (value .value .ok), value .value .ensures) at (c .floor-div2 .ensures))
-    ∙ ap (λ (b : Body). floorDiv (valueAt (start .args .body) (start .args .start .0) (start .args .coefs .now) (start .args .second .0)) (numbers b .mark)) (sym (c .before .enum-told2 .given .1))
+    ∙ ap (λ (b : Body). floorDiv (valueAt (series (start .args .body) (start .args .start .0) (start .args .coefs .now)) (start .args .second .0)) (numbers b .markSize)) (sym (c .before .enum-told2 .given .1))
 
 pub index-at-spec : {M : Type 1} → statement M
 index-at-spec =

@@ -5,7 +5,7 @@ use mir.Syntax.{w64}
 use mir.Val.{SFits}
 use mir.Facts.{toZ-ofZ}
 use Rattle.series.specs.declared.Body.{Body}
-use Rattle.series.specs.Series.{placeAfter}
+use Rattle.series.specs.theory.Place.{placeAfter}
 use Rattle.series.proofs.inner.place_after.Statement.{statement}
 use Rattle.series.proofs.inner.place_after.Tie as tie
 
