@@ -9,3 +9,7 @@ pub mod Distance
 pub mod Worked
 pub mod Booleans
 pub mod Evaluated
+pub mod Counted
+pub mod Tabulated
+pub mod Found
+pub mod Bounded
