@@ -1,0 +1,3 @@
+pub mod Months
+pub mod Answers
+pub mod theory

@@ -1,0 +1,6 @@
+pub mod Numbering
+pub mod Listed
+pub mod Days
+pub mod Leap
+pub mod Kept
+pub mod Answered
