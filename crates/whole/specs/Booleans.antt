@@ -12,7 +12,6 @@ pub second-fails : (a b : Bool) → b ≡ false → (a && b) ≡ false
 second-fails true b e = e
 second-fails false b e = refl
 
-<<<<<<< HEAD
 pub first-fails : (a b : Bool) → a ≡ false → (a && b) ≡ false
 first-fails a b e = rw e
 
@@ -22,7 +21,6 @@ both-hold a b e f = rw (e, f)
 -- no test is both
 pub not-both : {X : Type 0} {b : Bool} → b ≡ true → b ≡ false → X
 not-both p q = let z : _≡_ {A = ℕ} 0 1 = cc in absurd (omega arith)
-=======
 pub neither : (a b : Bool) → (a || b) ≡ false → (a ≡ false) × (b ≡ false)
 neither false b e = (refl, e)
 neither true b e = let z : _≡_ {A = ℕ} 0 1 = cc in absurd (omega arith)
@@ -36,4 +34,3 @@ first-holds a b e = rw e
 
 pub second-decides : (a b : Bool) → a ≡ false → b ≡ (a || b)
 second-decides a b e = rw e
->>>>>>> w2
