@@ -21,6 +21,7 @@ both-hold a b e f = rw (e, f)
 -- no test is both
 pub not-both : {X : Type 0} {b : Bool} → b ≡ true → b ≡ false → X
 not-both p q = let z : _≡_ {A = ℕ} 0 1 = cc in absurd (omega arith)
+
 pub neither : (a b : Bool) → (a || b) ≡ false → (a ≡ false) × (b ≡ false)
 neither false b e = (refl, e)
 neither true b e = let z : _≡_ {A = ℕ} 0 1 = cc in absurd (omega arith)

@@ -1,0 +1,4 @@
+pub mod Inputs
+pub mod Known
+pub mod theory
+pub mod Theorems
