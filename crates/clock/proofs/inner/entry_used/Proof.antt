@@ -1,23 +1,20 @@
 -- `clock::inner::entry_used` meets its contract. The loop's invariant: `low` holds by then, and nothing from `high` on does. Assumes nothing.
 use Prim.Native.Nat.{_-_}
 use native.Mathlib.Omega.{arith}
-use mir.Val.{toZ}
 use Rattle.clock.specs.theory.Used.{Bracket, bracket, raise, lower, found}
 use mathlib.Core.Path.{sym, _∙_}
 use borrow.Author.Needs.{needs}
-use mir.Syntax.{w64}
-use mir.Facts.{toZ-ofZ}
 use Rattle.clock.proofs.inner.entry_used.Statement.{statement}
 use Rattle.clock.proofs.inner.entry_used.Tie as tie
 
 abbrev Inv-loop : tie.InvT-loop
-Inv-loop leap t low₀ high₀ low high = Bracket leap (toZ w64 t) low high
+Inv-loop leap t low₀ high₀ low high = Bracket leap (t .0) low high
 
 abbrev μ-loop : tie.MeasureT-loop
 μ-loop leap t low₀ high₀ low high = high - low
 
 loop-holds : tie.Need-loop-holds Inv-loop μ-loop
-loop-holds c = rw (toZ-ofZ (c .fits .t)) (bracket (c .args .leap .now) (c .args .t) (c .pre .0) (c .pre .1))
+loop-holds c = bracket (c .args .leap .now) (c .args .t .0) (c .pre .0) (c .pre .1)
 
 add-loop : tie.Need-add-loop Inv-loop μ-loop
 add-loop c = record { fits = omega (arith, c .loop .inv .ordered, c .loop .inv .inside, c .before .good) }
@@ -56,9 +53,7 @@ loop-again-2 c =
     lower (loop .before .pre .0) (loop .loop .inv) (omega arith) (omega arith) (sym (judged .holds .ensures) ∙ c .if1 .left)
 
 returns : tie.Need-returns Inv-loop μ-loop
-returns c =
-    let loop = c .before in
-    rw (toZ-ofZ (loop .before .fits .t)) at (found (loop .loop .inv) (omega arith))
+returns c = found (c .before .loop .inv) (omega arith)
 
 pub entry-used-spec : {M : Type 1} → statement M
 entry-used-spec =

@@ -1,8 +1,8 @@
 -- `clock::inner::good_entry` meets its contract. Assumes nothing.
+use borrow.Author.Needs.{needs}
 use Prim.Native.Nat.{suc, _-_}
 use mathlib.Core.Path.{_≡_, ap, _∙_}
 use native.Mathlib.Omega.{arith}
-use borrow.Author.Needs.{needs}
 use mir.Syntax.{w64}
 use mir.Val.{SFits}
 use mir.Facts.{toZ-ofZ}
@@ -10,11 +10,11 @@ use Rattle.clock.specs.Leap.{day, offset, goodEntry}
 use Rattle.clock.proofs.inner.good_entry.Statement.{statement}
 use Rattle.clock.proofs.inner.good_entry.Tie as tie
 
+shared-slice-copy-out-t5 : tie.Need-shared-slice-copy-out-t5
+shared-slice-copy-out-t5 c = search needs
+
 shared-slice-copy-out-first-entry : tie.Need-shared-slice-copy-out-first-entry
 shared-slice-copy-out-first-entry c = search needs
-
-shared-slice-copy-out-first-entry-2 : tie.Need-shared-slice-copy-out-first-entry-2
-shared-slice-copy-out-first-entry-2 c = search needs
 
 first-entry-requires : tie.Need-first-entry-requires
 first-entry-requires c κs = search needs
@@ -45,8 +45,8 @@ pub good-entry-spec : {M : Type 1} → statement M
 good-entry-spec =
     tie.close
     (tie.spec
+    shared-slice-copy-out-t5
     shared-slice-copy-out-first-entry
-    shared-slice-copy-out-first-entry-2
     first-entry-requires
     returns
     sub-good-after

@@ -6,15 +6,15 @@ use Rattle.clock.specs.theory.Sizes.{second-small}
 use Rattle.clock.proofs.inner.tai_of.Statement.{statement}
 use Rattle.clock.proofs.inner.tai_of.Tie as tie
 
-mul-result : tie.Need-mul-result
-mul-result c = let small = second-small (c .before .args .second) (c .before .pre) in fits (search bounds) tt
+mul-t3 : tie.Need-mul-t3
+mul-t3 c = let small = second-small (c .before .args .second) (c .before .pre) in fits (search bounds) tt
 
-sub-result : tie.Need-sub-result
-sub-result c = let small = second-small (c .before .args .second) (c .before .pre) in fits (search (bounds, bound-back (mul-result c))) tt
+sub-t4 : tie.Need-sub-t4
+sub-t4 c = let small = second-small (c .before .args .second) (c .before .pre) in fits (search (bounds, bound-back (mul-t3 c))) tt
 
 returns : tie.Need-returns
 unfolding tai
-returns c = rw (toZ-ofZ (sub-result c), toZ-ofZ (mul-result c), read-back (c .before .args .second .0) (c .struct-told .given .0 .1))
+returns c = rw (toZ-ofZ (sub-t4 c), toZ-ofZ (mul-t3 c), read-back (c .before .args .second .0) (c .struct-told .given .0 .1))
 
 pub tai-of-spec : {M : Type 1} → statement M
-tai-of-spec = tie.close (tie.spec mul-result sub-result returns)
+tai-of-spec = tie.close (tie.spec mul-t3 sub-t4 returns)
