@@ -22,7 +22,7 @@ use Rattle.marks.specs.Words.{markWords}
 use Rattle.marks.specs.Answers.{listedInto, writtenInto}
 use Rattle.marks.specs.theory.Words.{words-length}
 use Rattle.marks.specs.theory.Answered.{Answered, answered-means}
-use Rattle.marks.specs.theory.Crossings.{listed-exactly, listed-in-time-order}
+use Rattle.marks.specs.theory.Crossings.{listed-exactly, listed-in-time-order, one-second, one-index}
 use Rattle.marks.specs.theory.Located.{located, located-only, seconds-rise, numbered, listed-located}
 use Rattle.marks.specs.theory.ExactSum.{exact-before, exact-after, exact-crossing-listed}
 
@@ -34,6 +34,13 @@ module _ (s : Series) (e : Accepted s) where
   -- .. each once, in time order
   pub crossings-in-time-order : InTimeOrder (listedMarks s)
   crossings-in-time-order = listed-in-time-order (accepted-rises s e) (span-ordered s e)
+
+  -- a mark is at one second, and at a second is one mark
+  pub one-second-a-mark : (j t u : ℤ) → MarkAt s j t → MarkAt s j u → t ≡ u
+  one-second-a-mark = one-second (accepted-rises s e)
+
+  pub one-mark-a-second : (t i j : ℤ) → MarkAt s i t → MarkAt s j t → i ≡ j
+  one-mark-a-second = one-index (accepted-rises s e)
 
   -- (b) two seconds before a listed mark's second the exact sum is under the mark, one second after it is over, where those seconds are in the span
   pub exact-under-before : (j second : ℤ) → ListedAt s j second → InSpan s (second -ℤ pos 2) → ExactUnder s j (second -ℤ pos 2)

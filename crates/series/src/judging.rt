@@ -2,6 +2,7 @@
 use crate::Body;
 use refusals::Check;
 use refusals::Refusal;
+use times::Second;
 ghost use mathlib.Core.Path.{_≡_};
 ghost use Prim.Native.Nat.{_*_, _-_, _<_, _≤_};
 ghost use lib.ListN.{length};
@@ -25,9 +26,10 @@ fn most(body: Body) -> usize
 }
 
 // 2: the count of coefficients, and the start.
-pub fn shape(body: Body, start: i64, count: usize) -> Check
-    ensures { λ r. ⌜ paperCheck r ≡ judgedShape body start count ⌝ }
+pub fn shape(body: Body, start: Second, count: usize) -> Check
+    ensures { λ r. ⌜ paperCheck r ≡ judgedShape body (start .0) count ⌝ }
 {
+    let from = start.0;
     if count % 14 != 0 {
         return Check::Refused(refusals::SHAPE);
     }
@@ -37,10 +39,10 @@ pub fn shape(body: Body, start: i64, count: usize) -> Check
     if most(body) < count {
         return Check::Refused(refusals::SHAPE);
     }
-    if start < -10000000000 {
+    if from < -10000000000 {
         return Check::Refused(refusals::SHAPE);
     }
-    if 10000000000 < start {
+    if 10000000000 < from {
         return Check::Refused(refusals::SHAPE);
     }
     Check::Accepted

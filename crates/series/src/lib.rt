@@ -24,8 +24,7 @@ pub enum ValueAnswer {
 pub fn accept(body: Body, start: Second, coefs: &[i64]) -> Check
     ensures { λ r. ⌜ paperCheck r ≡ seriesJudged (series body (start .0) (now (coefs .entry))) ⌝ }
 {
-    let from = start.0;
-    let shape = judging::shape(body, from, coefs.len());
+    let shape = judging::shape(body, start, coefs.len());
     if let Check::Refused(r) = shape {
         return Check::Refused(r);
     }

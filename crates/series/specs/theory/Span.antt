@@ -17,7 +17,6 @@ use Rattle.whole.specs.Distance.{distanceFrom, distance-is, between-fits}
 use Rattle.chebyshev.specs.Polynomials.{S}
 use Rattle.chebyshev.specs.Theorems.{value-bound}
 use Rattle.series.specs.declared.Body.{Body}
-use Rattle.series.specs.declared.Body.the-variants.{Sun, Moon}
 use Rattle.series.specs.Bodies.{numbers, BodyLaws, body-laws}
 use Rattle.series.specs.Series.{Series, segments, segmentLength, segmentStart, lastSecond, InSpan, segmentAt, placeAt, valueAt}
 use Rattle.series.specs.Acceptance.{Accepted}
@@ -43,8 +42,13 @@ pub first-within : Within S (negsuc 66355199)
 first-within = record { within = lit≤ tt }
 
 pub last-within : (body : Body) → Within S (pos S -ℤ pos (numbers body .step))
-last-within Sun = record { within = lit≤ tt }
-last-within Moon = record { within = lit≤ tt }
+last-within body = record { within = less (numbers body .step) (omega (arith, mul-le-mul (le-refl (numbers body .step)) some-half, body-laws body .exact-step)) }
+  where
+    some-half : 1 ≤ numbers body .halfLength
+    some-half = omega (arith, body-laws body .long)
+
+    less : (q : ℕ) → q ≤ S → natAbs (pos S -ℤ pos q) ≤ S
+    less q h = let ρ = pos q ∷ [] in ⇑ ρ (search ring depth 9) (omega arith, omega arith)
 
 module _ (s : Series) (e : Accepted s) where
   known : Facts s
