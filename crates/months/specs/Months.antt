@@ -31,9 +31,12 @@ leapMark leap place = cond (eqb place leap) 1 0
 unfoldable pub handle : ℤ → ℕ → ℕ → ℤ
 handle year number mark = pos 32 *ℤ year +ℤ pos (2 * number + mark)
 
+unfoldable pub handleAt : ℤ → ℕ → ℕ → ℤ
+handleAt year leap place = handle year (numberAt leap place) (leapMark leap place)
+
 -- a month runs from its new-moon day to the day before the next
 unfoldable pub monthOf : ℤ → ℕ → ℕ → ℤ → ℤ → Month
-monthOf year leap place first next = record { handle = handle year (numberAt leap place) (leapMark leap place); first = first; length = next -ℤ first }
+monthOf year leap place first next = record { handle = handleAt year leap place; first = first; length = next -ℤ first }
 
 -- what stands where there is no month
 abbrev pub noMonth : Month

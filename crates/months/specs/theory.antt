@@ -4,3 +4,6 @@ pub mod Days
 pub mod Leap
 pub mod Kept
 pub mod Answered
+pub mod Rising
+pub mod Suis
+pub mod Thirteen

@@ -62,3 +62,21 @@ module _ (moons zhongqi : List ℤ) {days : SuiDays} (found : daysOf moons zhong
   pub found-small : {n : ℕ} → All n moons → All n (days .moons)
   unfolding daysFound
   found-small h = rw (← found-is) (all-append (all-take (monthCount moons zhongqi + 1) (all-drop (byFirst moons zhongqi - 1) h)) (all-zeros (14 - (monthCount moons zhongqi + 1))))
+
+  pub found-zhongqi : zhongqi ≡ days .zhongqi
+  unfolding daysFound
+  found-zhongqi = ap (λ (d : SuiDays). d .zhongqi) found-is
+
+  -- the months begin on consecutive new-moon days
+  pub found-first : (place : ℕ) → place ≤ days .months → monthFirst days place ≡ getD moons (byFirst moons zhongqi - 1 + place) (pos 0)
+  unfolding daysFound monthCount
+  found-first place h =
+      let n = monthCount moons zhongqi in
+      let from = byFirst moons zhongqi - 1 in
+      let listed = found-listed in
+      let few = at-most-thirteen n found-count in
+      let same = found-months in
+      let long : length (take (n + 1) (drop from moons)) ≡ n + 1 = length-take-le (n + 1) (drop from moons) (rw (length-drop from moons) (omega arith)) in
+      rw (← found-is)
+      (List·getD-append (take (n + 1) (drop from moons)) (replicate (14 - (n + 1)) (pos 0)) (pos 0) place (omega arith)
+      ∙ getD-take (n + 1) (drop from moons) place (pos 0) (omega arith) ∙ getD-drop from moons place (pos 0))

@@ -3,6 +3,7 @@ use mathlib.Core.Path.{_≡_, refl}
 use mathlib.Core.Bool.{Bool, true, false, cond}
 use Prim.Native.Nat.{ℕ, _+_, _%_, _≤_, _<_}
 use native.Mathlib.Omega.{arith}
+use native.Mathlib.Decide.{decLt}
 use native.Mathlib.Nat.{mod-lt}
 use borrow.Author.Tests.{lt-ltb, le-ltb, eq-eqb, ne-eqb}
 use lib.Dec.{ltb, eqb}
@@ -43,3 +44,32 @@ mark-small leap place = go (eqb place leap)
     go : (b : Bool) → cond b 1 0 ≤ 1
     go true = omega arith
     go false = omega arith
+
+-- ---- where a place stands to the leap month, and what it is called there
+data Side (leap place : ℕ) : Type 0 where
+  before : place < leap → (place + 10) % 12 + 1 ≡ numberAt leap place → 0 ≡ leapMark leap place → Side leap place
+  there : place ≡ leap → 1 ≡ leapMark leap place → Side leap place
+  behind : leap < place → (place + 11 + 10) % 12 + 1 ≡ numberAt leap place → 0 ≡ leapMark leap place → Side leap place
+
+side : (leap place : ℕ) → Side leap place
+side leap place = go (decLt place leap) (decLt leap place)
+  where
+    go : Dec (place < leap) → Dec (leap < place) → Side leap place
+    go (yes h) d = before h (before-leap leap place h) (not-at-leap leap place (λ e. omega arith))
+    go (no h) (yes k) = behind k (from-leap leap place (omega arith)) (not-at-leap leap place (λ e. omega arith))
+    go (no h) (no k) = there (omega arith) (at-leap leap place (omega arith))
+
+-- no two places of a sui have one number and one mark
+pub places-differ : (leap place other : ℕ) → leap ≤ 12 → place ≤ 12 → other ≤ 12 → numberAt leap place ≡ numberAt leap other → leapMark leap place ≡ leapMark leap other → place ≡ other
+places-differ leap place other l h k n m = go (side leap place) (side leap other)
+  where
+    go : Side leap place → Side leap other → place ≡ other
+    go (before a b c) (before d e f) = omega arith
+    go (before a b c) (there d e) = absurd (omega arith)
+    go (before a b c) (behind d e f) = absurd (omega arith)
+    go (there a b) (before d e f) = absurd (omega arith)
+    go (there a b) (there d e) = omega arith
+    go (there a b) (behind d e f) = absurd (omega arith)
+    go (behind a b c) (before d e f) = absurd (omega arith)
+    go (behind a b c) (there d e) = absurd (omega arith)
+    go (behind a b c) (behind d e f) = omega arith

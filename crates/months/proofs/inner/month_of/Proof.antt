@@ -1,12 +1,11 @@
 -- `months::inner::month_of` meets its contract. Assumes nothing.
-use mathlib.Core.Path.{_≡_, _∙_, ap}
 use native.Mathlib.Omega.{arith}
 use mir.Syntax.{w64}
 use mir.Val.{SFits}
 use mir.Facts.{toZ-ofZ}
 use borrow.Author.Needs.{needs}
-use Rattle.whole.specs.Ranges.{Within, fits, bounds}
-use Rattle.months.specs.Months.{numberAt, leapMark, handle, monthOf}
+use Rattle.whole.specs.Ranges.{fits, bounds}
+use Rattle.months.specs.Months.{handleAt, monthOf}
 use Rattle.months.specs.theory.Numbering.{number-small, mark-small}
 use Rattle.months.proofs.inner.month_of.Statement.{statement}
 use Rattle.months.proofs.inner.month_of.Tie as tie
@@ -35,7 +34,7 @@ subtract-requires c κs =
     rw (toZ-ofZ f, toZ-ofZ g) (fits (search bounds) tt)
 
 returns : tie.Need-returns
-unfolding monthOf
+unfolding monthOf handleAt
 returns c =
     let a = c .before .before .before .before .args in
     let fy : SFits w64 (a .year) = search needs in
