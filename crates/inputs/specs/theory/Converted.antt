@@ -23,7 +23,7 @@ use Rattle.marks.specs.Crossings.{marked}
 use Rattle.marks.specs.Answers.{noMark}
 use Rattle.marks.specs.Listed.{listedMarks, firstReached, lastReached, secondOfMark}
 use Rattle.marks.specs.Theorems.{located-crossing}
-use Rattle.marks.specs.theory.Nth.{nthIndex, nth-is, marks-length, indices-ordered}
+use Rattle.marks.specs.theory.Nth.{nthIndex, nth-is, index-low, index-high, marks-length, indices-ordered}
 use Rattle.inputs.specs.Inputs.{second}
 use Rattle.inputs.specs.Known.{Ready}
 use Rattle.inputs.specs.theory.Early.{each-not-early}
@@ -73,3 +73,9 @@ mark-readable leap s r j low high zone z =
       not-early = ap (λ (m : Mark). early leap (second m)) (sym (place .2)) ∙ each-not-early leap (listedMarks s) (r .none-early) (place .0) (place .1);
       zone-small = z;
     }
+
+-- the same by the place in the list
+pub nth-readable : (leap : List ℤ) (s : Series) → Ready leap s → (k : ℕ) → k < length (listedMarks s) → (zone : ℤ) → Within 1000 zone → Readable leap (second (getD (listedMarks s) k noMark)) zone
+nth-readable leap s r k h zone z =
+    let e = r .is-accepted in
+    rw (nth-is s e k h) (mark-readable leap s r (nthIndex s e k h) (index-low s e k h) (index-high s e k h) zone z)
