@@ -19,13 +19,13 @@ use Rattle.dates.specs.theory.Months.{take-below}
 use Rattle.dates.specs.theory.Days.{Valid}
 
 -- ---- months
-lengths-sum : (leap : Bool) → total (monthLengths leap) < 400
+lengths-small : (leap : Bool) → total (monthLengths leap) < 400
 unfolding monthLengths
-lengths-sum true = omega arith
-lengths-sum false = omega arith
+lengths-small true = omega arith
+lengths-small false = omega arith
 
 pub year-sum : (y : ℤ) → yearLength y < 400
-year-sum y = lengths-sum (leapYear y)
+year-sum y = lengths-small (leapYear y)
 
 one-below-all : (ls : List ℕ) (i : ℕ) → getD ls i 0 ≤ total ls
 one-below-all [] zero = omega arith

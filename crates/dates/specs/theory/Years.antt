@@ -40,31 +40,31 @@ fourth-is-century y e = eq-eqb (floorMod y 100) 0 (floorMod-unique y (pos 4 *ℤ
     ρ : List ℤ
     ρ = y ∷ floorDiv y 400 ∷ pos (floorMod y 400) ∷ []
 
-one-more : (y : ℤ) (b4 b100 b400 : Bool) → divides 4 y ≡ b4 → divides 100 y ≡ b100 → divides 400 y ≡ b400
+counts-on : (y : ℤ) (b4 b100 b400 : Bool) → divides 4 y ≡ b4 → divides 100 y ≡ b100 → divides 400 y ≡ b400
     → leapYearsTo y ≡ leapYearsTo (y -ℤ pos 1) +ℤ cond (b4 && (not b100 || b400)) (pos 1) (pos 0)
 unfolding leapYearsTo
-one-more y true true true p q r = let ρ = floorDiv y 4 ∷ floorDiv y 100 ∷ floorDiv y 400 ∷ [] in rw (at-multiple y 4 (omega arith) p, at-multiple y 100 (omega arith) q, at-multiple y 400 (omega arith) r) (⇑ ρ (search ring depth 12) refl)
-one-more y true true false p q r = let ρ = floorDiv y 4 ∷ floorDiv y 100 ∷ floorDiv y 400 ∷ [] in rw (at-multiple y 4 (omega arith) p, at-multiple y 100 (omega arith) q, elsewhere y 400 (omega arith) r) (⇑ ρ (search ring depth 12) refl)
-one-more y true false true p q r = not-both (fourth-is-century y r) q
-one-more y true false false p q r = let ρ = floorDiv y 4 ∷ floorDiv y 100 ∷ floorDiv y 400 ∷ [] in rw (at-multiple y 4 (omega arith) p, elsewhere y 100 (omega arith) q, elsewhere y 400 (omega arith) r) (⇑ ρ (search ring depth 12) refl)
-one-more y false true true p q r = not-both (century-is-fourth y q) p
-one-more y false true false p q r = not-both (century-is-fourth y q) p
-one-more y false false true p q r = not-both (fourth-is-century y r) q
-one-more y false false false p q r = let ρ = floorDiv y 4 ∷ floorDiv y 100 ∷ floorDiv y 400 ∷ [] in rw (elsewhere y 4 (omega arith) p, elsewhere y 100 (omega arith) q, elsewhere y 400 (omega arith) r) (⇑ ρ (search ring depth 12) refl)
+counts-on y true true true p q r = let ρ = floorDiv y 4 ∷ floorDiv y 100 ∷ floorDiv y 400 ∷ [] in rw (at-multiple y 4 (omega arith) p, at-multiple y 100 (omega arith) q, at-multiple y 400 (omega arith) r) (⇑ ρ (search ring depth 12) refl)
+counts-on y true true false p q r = let ρ = floorDiv y 4 ∷ floorDiv y 100 ∷ floorDiv y 400 ∷ [] in rw (at-multiple y 4 (omega arith) p, at-multiple y 100 (omega arith) q, elsewhere y 400 (omega arith) r) (⇑ ρ (search ring depth 12) refl)
+counts-on y true false true p q r = not-both (fourth-is-century y r) q
+counts-on y true false false p q r = let ρ = floorDiv y 4 ∷ floorDiv y 100 ∷ floorDiv y 400 ∷ [] in rw (at-multiple y 4 (omega arith) p, elsewhere y 100 (omega arith) q, elsewhere y 400 (omega arith) r) (⇑ ρ (search ring depth 12) refl)
+counts-on y false true true p q r = not-both (century-is-fourth y q) p
+counts-on y false true false p q r = not-both (century-is-fourth y q) p
+counts-on y false false true p q r = not-both (fourth-is-century y r) q
+counts-on y false false false p q r = let ρ = floorDiv y 4 ∷ floorDiv y 100 ∷ floorDiv y 400 ∷ [] in rw (elsewhere y 4 (omega arith) p, elsewhere y 100 (omega arith) q, elsewhere y 400 (omega arith) r) (⇑ ρ (search ring depth 12) refl)
 
 pub leap-counts : (y : ℤ) → leapYearsTo y ≡ leapYearsTo (y -ℤ pos 1) +ℤ cond (leapYear y) (pos 1) (pos 0)
 unfolding leapYear
-leap-counts y = one-more y (divides 4 y) (divides 100 y) (divides 400 y) refl refl refl
+leap-counts y = counts-on y (divides 4 y) (divides 100 y) (divides 400 y) refl refl refl
 
 -- ---- the next year begins a year's length later
-lengths-sum : (leap : Bool) → pos (total (monthLengths leap)) ≡ pos 365 +ℤ cond leap (pos 1) (pos 0)
+lengths-total : (leap : Bool) → pos (total (monthLengths leap)) ≡ pos 365 +ℤ cond leap (pos 1) (pos 0)
 unfolding monthLengths
-lengths-sum true = refl
-lengths-sum false = refl
+lengths-total true = refl
+lengths-total false = refl
 
 pub next-year : (y : ℤ) → newYear (y +ℤ pos 1) ≡ newYear y +ℤ pos (yearLength y)
 unfolding newYear
-next-year y = rw (lengths-sum (leapYear y)) (go (leapYearsTo (y +ℤ pos 1 -ℤ pos 1)) (ap leapYearsTo back ∙ leap-counts y))
+next-year y = rw (lengths-total (leapYear y)) (go (leapYearsTo (y +ℤ pos 1 -ℤ pos 1)) (ap leapYearsTo back ∙ leap-counts y))
   where
     back : y +ℤ pos 1 -ℤ pos 1 ≡ y
     back = ⇑ (y ∷ []) (search ring depth 9) refl
