@@ -9,3 +9,4 @@ pub mod Distance
 pub mod Worked
 pub mod Booleans
 pub mod Evaluated
+pub mod Lent
