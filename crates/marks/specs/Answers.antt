@@ -1,13 +1,14 @@
 -- What the two entry points answer, on paper, and what the lent list holds afterwards (document 01, "Marks" and "Refusal numbers"): 2 to 5 for the series, then
 -- 12 where the lent room has fewer places than the marks fill. A place is two words, index and second. Assumes nothing: these are definitions.
 use mathlib.Core.List.{List, _++_}
-use Prim.Native.Nat.{ℕ}
+use mathlib.Core.Path.{_≡_}
+use Prim.Native.Nat.{ℕ, _*_, _≤_}
 use lib.Dec.{ltb}
 use lib.ListN.{length, drop}
 use lib.IntN.{ℤ, pos}
 use Rattle.refusals.specs.Verdict.{Verdict, answered, refused, refusal, refuseWhen, _before_}
 use Rattle.series.specs.Series.{Series}
-use Rattle.series.specs.Acceptance.{seriesJudged}
+use Rattle.series.specs.Acceptance.{Accepted, seriesJudged}
 use Rattle.marks.specs.declared.CountAnswer.{CountAnswer}
 use Rattle.marks.specs.declared.CountAnswer.the-variants as count-answer
 use Rattle.marks.specs.declared.ListAnswer.{ListAnswer}
@@ -34,6 +35,12 @@ module _ (s : Series) where
   -- the same, where there is room for them: `room` is in words
   abbrev pub listedInto : ℕ → Verdict ℕ
   listedInto room = seriesJudged s before refuseWhen (ltb room (length (markWords (listedMarks s)))) 12 before answered (length (listedMarks s))
+
+-- what an answer to a listing tells: the series is accepted, the number is that of the listed marks, and there is room for them
+pub record Answered (s : Series) (room n : ℕ) : Type 0 where
+  pub is-accepted : Accepted s
+  pub is-count : n ≡ length (listedMarks s)
+  pub has-room : 2 * n ≤ room
 
 -- A lent slice afterwards: as it was where the call is refused; else the words, and behind them what stood there.
 abbrev pub writtenInto : Verdict ℕ → List ℤ → List ℤ → List ℤ

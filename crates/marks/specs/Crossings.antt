@@ -1,7 +1,7 @@
--- What the list of marks is measured by (document 01, "Marks"): the crossings of a value, and time order. Assumes nothing: these are definitions.
+-- What the list of marks is measured by (document 01, "Marks"): the crossings of a value, time order, and marks by their indices. Assumes nothing: these are definitions.
 use mathlib.Core.List.{List, [], _∷_, List·Memᴰ}
-use Prim.Native.Nat.{ℕ}
-use lib.IntN.{ℤ, pos, _-ℤ_, _*ℤ_}
+use Prim.Native.Nat.{ℕ, zero, suc}
+use lib.IntN.{ℤ, pos, _+ℤ_, _-ℤ_, _*ℤ_}
 use lib.Signed.{_≤ℤ_, _<ℤ_}
 use Rattle.marks.specs.Marks.{Mark}
 
@@ -24,3 +24,8 @@ m ∈ l = List·Memᴰ m l
 abbrev pub InTimeOrder : List Mark → Type 0
 InTimeOrder [] = Unit
 InTimeOrder (m ∷ l) = ((n : Mark) → n ∈ l → (m .second <ℤ n .second) × (m .index <ℤ n .index)) × InTimeOrder l
+
+-- the n marks from index j on, each at the second that `at` gives
+unfoldable pub numbered : (ℤ → ℤ) → ℤ → ℕ → List Mark
+numbered at j zero = []
+numbered at j (suc n) = marked j (at j) ∷ numbered at (j +ℤ pos 1) n

@@ -10,8 +10,12 @@ use Rattle.marks.specs.Marks.{Mark, indexAt, marks, secondOf}
 use Rattle.marks.specs.Crossings.{Crossing, marked, _∈_}
 
 module _ (s : Series) where
+  -- the marks of a stretch, and of the whole span
+  abbrev pub marksBetween : ℤ → ℤ → List Mark
+  marksBetween = marks (valueAt s) (numbers (s .body) .markSize)
+
   abbrev pub listedMarks : List Mark
-  listedMarks = marks (valueAt s) (numbers (s .body) .markSize) (s .start) (lastSecond s)
+  listedMarks = marksBetween (s .start) (lastSecond s)
 
   -- how many marks are reached at a second
   abbrev pub reachedAt : ℤ → ℤ

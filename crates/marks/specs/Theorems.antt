@@ -2,7 +2,7 @@
 -- is exactly the crossings of its values, each once, in time order; (b) around a listed mark's second the exact sum is under the mark two seconds before and over
 -- it one second after; (c) where the exact sum crosses a mark, the mark is listed, at most one second away. Assumes nothing.
 use mathlib.Core.Path.{_≡_, refl, _∙_}
-use mathlib.Core.List.{List, _++_}
+use mathlib.Core.List.{List, [], _∷_, _++_}
 use mathlib.Core.Logic.{_↔_}
 use Prim.Native.Nat.{ℕ, _*_, _≤_}
 use native.Mathlib.Omega.{arith}
@@ -12,18 +12,20 @@ use lib.Signed.{_≤ℤ_, _<ℤ_}
 use lib.ListN.{length, drop}
 use Rattle.whole.specs.Distance.{distanceFrom}
 use Rattle.refusals.specs.Verdict.{answered}
-use Rattle.series.specs.Series.{Series, InSpan, lastSecond}
+use Rattle.series.specs.Bodies.{numbers}
+use Rattle.series.specs.Series.{Series, InSpan, lastSecond, valueAt}
 use Rattle.series.specs.Acceptance.{Accepted}
 use Rattle.series.specs.Theorems.{accepted-rises, accepted-tracks}
 use Rattle.series.specs.theory.Span.{span-ordered}
-use Rattle.marks.specs.Crossings.{marked, InTimeOrder}
-use Rattle.marks.specs.Listed.{listedMarks, firstReached, lastReached, secondOfMark, MarkAt, ListedAt, ExactUnder, ExactReached, ExactOver}
+use Rattle.marks.specs.Crossings.{marked, InTimeOrder, numbered}
+use Rattle.marks.specs.Listed.{marksBetween, listedMarks, reachedAt, firstReached, lastReached, secondOfMark, MarkAt, ListedAt, ExactUnder, ExactReached, ExactOver}
 use Rattle.marks.specs.Words.{markWords}
-use Rattle.marks.specs.Answers.{listedInto, writtenInto}
+use Rattle.marks.specs.Answers.{listedInto, writtenInto, Answered}
 use Rattle.marks.specs.theory.Words.{words-length}
-use Rattle.marks.specs.theory.Answered.{Answered, answered-means}
+use Rattle.marks.specs.theory.Answered.{answered-means}
+use Rattle.marks.specs.theory.StretchLaws.{joined, none, neighbours}
 use Rattle.marks.specs.theory.Crossings.{listed-exactly, listed-in-time-order, one-second, one-index}
-use Rattle.marks.specs.theory.Located.{located, located-only, seconds-rise, numbered, listed-located}
+use Rattle.marks.specs.theory.Located.{located, located-only, seconds-rise, listed-located}
 use Rattle.marks.specs.theory.ExactSum.{exact-before, exact-after, exact-crossing-listed}
 
 module _ (s : Series) (e : Accepted s) where
@@ -53,6 +55,20 @@ module _ (s : Series) (e : Accepted s) where
   pub exact-crossing-is-listed : (j a b : ℤ) → InSpan s a → (s .start) <ℤ a → InSpan s b → b <ℤ lastSecond s → ExactUnder s j a → ExactReached s j b →
       (second : ℤ) × (a ≤ℤ second) × (second ≤ℤ (b +ℤ pos 1)) × ListedAt s j second
   exact-crossing-is-listed j a b i after-first k before-last = exact-crossing-listed (accepted-rises s e) (accepted-tracks s e) (span-ordered s e) j a b after-first (i .to-last) (k .from-start) before-last
+
+  -- ---- how a stretch's marks are found (document 01, "Marks")
+
+  -- "A stretch whose end values lie between the same two marks holds none"
+  pub same-marks-none : {a b : ℤ} → InSpan s a → a ≤ℤ b → InSpan s b → reachedAt s a ≡ reachedAt s b → marksBetween s a b ≡ []
+  same-marks-none i o k = none (accepted-rises s e) (i .from-start) o (k .to-last)
+
+  -- "any other stretch gives the marks of its two halves in turn. The halves share their middle second"
+  pub halves-in-turn : {a b c : ℤ} → a ≤ℤ b → b ≤ℤ c → marksBetween s a b ++ marksBetween s b c ≡ marksBetween s a c
+  halves-in-turn = joined (valueAt s) (numbers (s .body) .markSize)
+
+  -- "two neighbouring seconds with a mark between them give that mark"
+  pub neighbours-give-it : (a b : ℤ) → b ≡ a +ℤ pos 1 → reachedAt s a <ℤ reachedAt s b → marksBetween s a b ≡ marked (reachedAt s b) b ∷ []
+  neighbours-give-it = neighbours (accepted-rises s e)
 
   -- ---- for the entry point `list_marks`: an accepted series with room enough is listed, in these words, and behind them stands what stood there
   pub accepted-is-listed : (out : List ℤ) → 2 * length (listedMarks s) ≤ length out →

@@ -5,13 +5,11 @@ use series::Body;
 use times::Second;
 ghost use mathlib.Core.Path.{_≡_};
 ghost use lib.ListN.{length};
-ghost use Rattle.series.specs.Bodies.{numbers};
-ghost use Rattle.series.specs.Series.{series, valueAt};
+ghost use Rattle.series.specs.Series.{series};
 ghost use Rattle.series.specs.Acceptance.{Accepted};
-ghost use Rattle.marks.specs.Marks.{marks};
 ghost use Rattle.marks.specs.Words.{markWords};
 ghost use Rattle.marks.specs.Stretch.{StretchOf};
-ghost use Rattle.marks.specs.Listed.{listedMarks};
+ghost use Rattle.marks.specs.Listed.{marksBetween, listedMarks};
 ghost use Rattle.marks.specs.Answers.{paperCount, paperList, countedMarks, listedInto, writtenInto};
 
 mod guess;
@@ -31,7 +29,7 @@ fn find(
 )
     requires { ⌜ Accepted (series body (start .0) (now coefs)) ⌝ }
     requires { ⌜ StretchOf (series body (start .0) (now coefs)) (lo .0) (hi .0) lowest highest (length (now out)) ⌝ }
-    ensures { λ _. ⌜ now (out .exit) ≡ markWords (marks (valueAt (series body (start .0) (now (coefs .entry)))) (numbers body .markSize) (lo .0) (hi .0)) ⌝ }
+    ensures { λ _. ⌜ now (out .exit) ≡ markWords (marksBetween (series body (start .0) (now (coefs .entry))) (lo .0) (hi .0)) ⌝ }
 {
     if lowest == highest {
         return;
@@ -44,30 +42,12 @@ fn find(
         out[1] = to;
         return;
     }
-    let middle = Second(whole::inner::middle(from, to));
-    let between = inner::index_at(body, start, coefs, middle);
+    let mid = Second(whole::inner::middle(from, to));
+    let between = inner::index_at(body, start, coefs, mid);
     let count = whole::inner::distance(lowest, between);
     let k = 2 * count;
-    find(
-        body,
-        start,
-        coefs,
-        lo,
-        middle,
-        lowest,
-        between,
-        &mut out[..k],
-    );
-    find(
-        body,
-        start,
-        coefs,
-        middle,
-        hi,
-        between,
-        highest,
-        &mut out[k..],
-    );
+    find(body, start, coefs, lo, mid, lowest, between, &mut out[..k]);
+    find(body, start, coefs, mid, hi, between, highest, &mut out[k..]);
 }
 
 // How many marks a series lists, or why it is refused.

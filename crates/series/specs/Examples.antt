@@ -83,9 +83,9 @@ bodies =
     ∷ []
 
 -- each bound, on both sides
-unfoldable pub bounds : List Bool
+unfoldable pub bothSides : List Bool
 unfolding seriesJudged valueOf valueAt value slope sum P floorDiv firstBad
-bounds =
+bothSides =
     isAccepted (seriesJudged (startsAt (pos 10000000000)))
     ∷ isRefused (seriesJudged (startsAt (pos 10000000001))) 2
     ∷ isAccepted (seriesJudged (startsAt (negℤ (pos 10000000000))))
@@ -132,8 +132,8 @@ order =
     ∷ []
 
 unfoldable pub examples : List Bool
-examples = starred ++ bodies ++ bounds ++ order
+examples = starred ++ bodies ++ bothSides ++ order
 
 pub examples-hold : T (all examples)
-unfolding examples starred bodies bounds order
+unfolding examples starred bodies bothSides order
 examples-hold = tt

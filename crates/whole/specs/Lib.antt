@@ -16,3 +16,4 @@ pub mod Counted
 pub mod Tabulated
 pub mod Found
 pub mod Bounded
+pub mod Lent

@@ -15,7 +15,7 @@ use Rattle.whole.specs.Distance.{distanceFrom}
 use Rattle.whole.specs.Ranges.{ofZ-inj, back, fits-of}
 use Rattle.series.specs.Bodies.{numbers}
 use Rattle.series.specs.Series.{series, valueAt, lastSecond}
-use Rattle.marks.proofs.Lent.{rest-room, both-written, both-room, empty, two-set}
+use Rattle.whole.specs.Lent.{rest-room, both-written, both-room, empty, two-set}
 use Rattle.marks.proofs.Halves.{Halves, halves, inside, few-seconds, no-marks, no-room, some-seconds, one-mark, one-room, Inside}
 use Rattle.marks.proofs.find.Reads as find
 use Rattle.marks.proofs.find.Kinds as find-kinds

@@ -15,9 +15,9 @@ use Rattle.series.specs.Series.{Series, series, lastSecond}
 use Rattle.marks.specs.Words.{markWords}
 use Rattle.marks.specs.Stretch.{StretchOf}
 use Rattle.marks.specs.Listed.{listedMarks}
-use Rattle.marks.specs.Answers.{paperList, writtenInto, listedInto}
+use Rattle.marks.specs.Answers.{paperList, writtenInto, listedInto, Answered}
 use Rattle.marks.specs.theory.Words.{words-length}
-use Rattle.marks.specs.theory.Answered.{Answered, answered-means}
+use Rattle.marks.specs.theory.Answered.{answered-means}
 use Rattle.marks.proofs.Halves.{span, marks-of}
 use Rattle.marks.proofs.list_marks.Statement.{statement}
 use Rattle.marks.proofs.list_marks.Tie as tie

@@ -8,16 +8,11 @@ use lib.Dec.{ltb}
 use lib.ListN.{length}
 use Rattle.refusals.specs.Verdict.{Verdict, answered, refused, accepted, refuseWhen, _before_, answers-apart, answer-or-refusal}
 use Rattle.series.specs.Series.{Series}
-use Rattle.series.specs.Acceptance.{Accepted, seriesJudged}
+use Rattle.series.specs.Acceptance.{seriesJudged}
 use Rattle.marks.specs.Listed.{listedMarks}
 use Rattle.marks.specs.Words.{markWords}
-use Rattle.marks.specs.Answers.{listedInto}
+use Rattle.marks.specs.Answers.{listedInto, Answered}
 use Rattle.marks.specs.theory.Words.{words-length}
-
-pub record Answered (s : Series) (room n : ℕ) : Type 0 where
-  pub is-accepted : Accepted s
-  pub is-count : n ≡ length (listedMarks s)
-  pub has-room : 2 * n ≤ room
 
 told : (judgement : Verdict (Unit {0})) (room filled count n : ℕ) → filled ≡ 2 * count → judgement before refuseWhen (ltb room filled) 12 before answered count ≡ answered n → (judgement ≡ accepted) × ((n ≡ count) × (2 * n ≤ room))
 told (answered tt) room filled count n two e = go (ltb room filled) (ltb-false room filled) e

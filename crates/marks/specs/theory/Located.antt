@@ -3,7 +3,7 @@
 use mathlib.Core.Path.{_≡_, refl, sym, ap, ap₂, _∙_, subst}
 use mathlib.Core.Bool.{Bool, true, false, cond}
 use mathlib.Core.Logic.{⊎-elim, _↔_}
-use mathlib.Core.List.{List, [], _∷_, List·Memᴰ·head, Memᴰ·append-left, Memᴰ·append-right}
+use mathlib.Core.List.{_∷_, List·Memᴰ·head, Memᴰ·append-left, Memᴰ·append-right}
 use Prim.Native.Nat.{ℕ, zero, suc, _<_}
 use native.Mathlib.Omega.{arith}
 use lib.ListN.{length, getD}
@@ -17,17 +17,9 @@ use Rattle.series.specs.Rising.{Rising}
 use Rattle.marks.specs.Marks.{Mark, indexAt, markAt, marksAfter, marks, secondAfter, secondOf}
 use Rattle.marks.specs.theory.Indices.{reached, reaches, ahead, not-reached, index-rises, index-rises-by-one, index-mono}
 use Rattle.marks.specs.theory.StretchLaws.{lists-none, lists-one, length-is}
-use Rattle.marks.specs.Crossings.{Crossing, _∈_, marked}
+use Rattle.marks.specs.Crossings.{Crossing, _∈_, marked, numbered}
 use Rattle.marks.specs.theory.Crossings.{sooner, listed-exactly, one-second}
 
--- ---- what is claimed
-
--- the n marks from index j on, each at the second that `at` gives
-unfoldable pub numbered : (ℤ → ℤ) → ℤ → ℕ → List Mark
-numbered at j zero = []
-numbered at j (suc n) = marked j (at j) ∷ numbered at (j +ℤ pos 1) n
-
--- ---- how it is shown
 numbered-nth : (at : ℤ → ℤ) (j : ℤ) (n k : ℕ) (other : Mark) → k < n → getD (numbered at j n) k other ≡ marked (j +ℤ pos k) (at (j +ℤ pos k))
 unfolding numbered
 numbered-nth at j zero k other h = absurd (omega arith)
