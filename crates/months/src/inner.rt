@@ -20,7 +20,9 @@ ghost use lib.ListN.{length, take, drop, replicate};
 ghost use Rattle.whole.specs.Ranges.{Within, All};
 ghost use Rattle.whole.specs.Counted.{one};
 ghost use Rattle.refusals.specs.Verdict.{refusal};
-ghost use Rattle.months.specs.Months.{ordinal, numberAt, leapMark, handle, monthOf, notAfter, isMissing, twelveOrThirteen, daysOf, isWithin, zhongqiIn, without, firstWithout, leapMonth, goodLength, badMonth, firstBadMonth, monthFirst, numbered, suiOf, yearInRange, rising, dayInRange, inRange, daysKept, listsKept};
+ghost use Rattle.months.specs.Handles.{ordinal, numberAt, leapMark, handle, monthOf};
+ghost use Rattle.months.specs.Months.{notAfter, isMissing, twelveOrThirteen, daysOf, isWithin, zhongqiIn, without, firstWithout, leapMonth, goodLength, badMonth, firstBadMonth, monthFirst, numbered, suiOf};
+ghost use Rattle.months.specs.Limits.{yearInRange, rising, dayInRange, inRange, daysKept, listsKept};
 ghost use Rattle.months.specs.Answers.{daysAnswer, suiAnswer};
 
 // No sui, for this reason.

@@ -1,7 +1,7 @@
 // The months of a sui, by the rule over days alone (document 01, "Months of a sui"). Nothing here knows of series, instants or dates.
 use refusals::Check;
 ghost use mathlib.Core.Path.{_≡_};
-ghost use Rattle.months.specs.Months.{monthsOf};
+ghost use Rattle.months.specs.Limits.{monthsOf};
 ghost use Rattle.months.specs.Answers.{suiAnswer};
 
 pub mod inner;

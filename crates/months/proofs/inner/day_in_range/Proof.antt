@@ -1,7 +1,7 @@
 -- `months::inner::day_in_range` meets its contract. Assumes nothing.
 use lib.IntN.{pos, negsuc}
 use mir.Facts.{toZ-ofZ}
-use Rattle.months.specs.Months.{dayInRange}
+use Rattle.months.specs.Limits.{dayInRange}
 use Rattle.months.specs.theory.Kept.{below, not-below}
 use Rattle.months.proofs.inner.day_in_range.Statement.{statement}
 use Rattle.months.proofs.inner.day_in_range.Tie as tie

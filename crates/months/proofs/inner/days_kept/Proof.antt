@@ -2,7 +2,7 @@
 use mathlib.Core.Path.{sym, _∙_}
 use borrow.Author.Needs.{needs}
 use borrow.Author.Tests.{not-true, not-false}
-use Rattle.months.specs.Months.{rising, inRange, daysKept}
+use Rattle.months.specs.Limits.{rising, inRange, daysKept}
 use Rattle.months.specs.theory.Kept.{first-fails, first-passes}
 use Rattle.months.proofs.inner.days_kept.Statement.{statement}
 use Rattle.months.proofs.inner.days_kept.Tie as tie

@@ -1,6 +1,6 @@
 -- `months::inner::days_of` meets its contract. In the needs, `start` is the function's entry. Assumes nothing.
 use mathlib.Core.Path.{_≡_, sym, ap, _∙_}
-use mathlib.Core.Bool.{true, false}
+use mathlib.Core.Bool.{false}
 use Prim.Native.Nat.{_+_, _-_, _≤_, _<_}
 use native.Mathlib.Omega.{arith}
 use borrow.Author.Needs.{needs}
@@ -10,7 +10,7 @@ use lib.ListN.{length, getD}
 use mir.Syntax.{w64}
 use mir.Val.{SFits}
 use mir.Facts.{toZ-ofZ}
-use Rattle.months.specs.Months.{byFirst, bySecond, moonMissing, monthCount, twelveOrThirteen, daysFound, daysOf}
+use Rattle.months.specs.Months.{byFirst, bySecond, moonMissing, monthCount, twelveOrThirteen, daysFound}
 use Rattle.months.specs.Answers.{daysAnswer}
 use Rattle.months.specs.theory.Listed.{at-most-thirteen}
 use Rattle.months.specs.theory.Days.{days-missing, days-other-count, days-are-found, some-listed}

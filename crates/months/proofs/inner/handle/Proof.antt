@@ -6,7 +6,7 @@ use mir.Val.{SFits}
 use mir.Facts.{toZ-ofZ}
 use borrow.Author.Needs.{needs}
 use Rattle.whole.specs.Ranges.{fits, fits<, bounds}
-use Rattle.months.specs.Months.{handle}
+use Rattle.months.specs.Handles.{handle}
 use Rattle.months.proofs.inner.handle.Statement.{statement}
 use Rattle.months.proofs.inner.handle.Tie as tie
 

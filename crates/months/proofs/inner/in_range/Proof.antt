@@ -10,7 +10,7 @@ use lib.ListN.{length, getD, drop}
 use mir.Syntax.{w64}
 use mir.Val.{SFits}
 use mir.Facts.{toZ-ofZ}
-use Rattle.months.specs.Months.{inRange}
+use Rattle.months.specs.Limits.{inRange}
 use Rattle.months.specs.theory.Kept.{inRange-turn, inRange-end}
 use Rattle.months.proofs.inner.in_range.Statement.{statement}
 use Rattle.months.proofs.inner.in_range.Tie as tie

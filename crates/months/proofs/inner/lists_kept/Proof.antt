@@ -1,11 +1,9 @@
 -- `months::inner::lists_kept` meets its contract. In the needs, `start` is the function's entry. Assumes nothing.
 use mathlib.Core.Path.{_≡_, sym, _∙_}
-use mathlib.Core.Bool.{true, false}
-use Prim.Native.Nat.{_≤_}
+use mathlib.Core.Bool.{true}
 use borrow.Author.Tests.{not-true, not-false}
-use lib.ListN.{length}
 use mir.Facts.{toZ-ofZ}
-use Rattle.months.specs.Months.{yearInRange, daysKept}
+use Rattle.months.specs.Limits.{yearInRange, daysKept}
 use Rattle.months.specs.theory.Kept.{bad-year, too-many, bad-moons, by-zhongqi, not-thirteen}
 use borrow.Author.Needs.{needs}
 use Rattle.months.proofs.inner.lists_kept.Statement.{statement}

@@ -1,17 +1,16 @@
 -- `months::inner::numbered` meets its contract. The loop's invariant: the first i months stand in the array, and none behind them.
 -- Assumes nothing.
-use mathlib.Core.Path.{_≡_, refl, sym, ap, _∙_}
-use mathlib.Core.List.{List, _++_}
-use Prim.Native.Nat.{ℕ, _-_, _≤_}
+use mathlib.Core.Path.{_≡_, refl}
+use mathlib.Core.List.{_++_}
+use Prim.Native.Nat.{_-_, _≤_}
 use native.Mathlib.Omega.{arith}
-use borrow.Author.Needs.{needs}
-use lib.ListN.{length, drop, set, replicate}
+use lib.ListN.{drop, replicate}
 use mir.Syntax.{w64}
 use mir.Val.{toZ}
 use mir.Facts.{toZ-ofZ}
 use Rattle.whole.specs.Tabulated.{tabulate, tabulate-turn, drop-replicate}
-use Rattle.months.specs.declared.Month.{Month}
-use Rattle.months.specs.Months.{noMonth, monthOf, monthFirst, monthAt, numbered}
+use Rattle.months.specs.Handles.{noMonth}
+use Rattle.months.specs.Months.{monthAt, numbered}
 use Rattle.months.proofs.inner.numbered.Statement.{statement}
 use Rattle.months.proofs.inner.numbered.Tie as tie
 use Rattle.months.proofs.inner.numbered.Reads as reads

@@ -8,7 +8,7 @@ use lib.ListN.{length, getD, drop}
 use mir.Syntax.{w64}
 use mir.Val.{SFits}
 use mir.Facts.{toZ-ofZ}
-use Rattle.months.specs.Months.{rising}
+use Rattle.months.specs.Limits.{rising}
 use Rattle.months.specs.theory.Kept.{rising-stops, rising-turn, rising-end}
 use Rattle.months.proofs.inner.rising.Statement.{statement}
 use Rattle.months.proofs.inner.rising.Tie as tie

@@ -1,13 +1,12 @@
 -- `months::inner::sui_of` meets its contract. In the needs, `start` is the function's entry. Assumes nothing.
 use mathlib.Core.Path.{_≡_, sym, ap, _∙_}
 use mathlib.Core.Bool.{true, false}
-use native.Mathlib.Omega.{arith}
 use borrow.Author.Needs.{needs}
 use borrow.Author.Tests.{lt-ltb, le-ltb, eq-eqb, ne-eqb}
 use lib.Dec.{eqb, ltb}
 use mir.Facts.{toZ-ofZ}
 use Prim.Native.Nat.{_≤_}
-use Rattle.months.specs.Months.{firstBadMonth, leapMonth, noneWithout, numbered, suiOf}
+use Rattle.months.specs.Months.{firstBadMonth, noneWithout, numbered}
 use Rattle.months.specs.Answers.{suiAnswer}
 use Rattle.months.specs.theory.Listed.{at-most-thirteen}
 use Rattle.months.specs.theory.Leap.{none-without, sui-bad-length, sui-none-without, sui-numbered}

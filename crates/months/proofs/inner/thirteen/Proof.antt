@@ -1,16 +1,16 @@
 -- `months::inner::thirteen` meets its contract. The loop's invariant: the first i days are copied. Assumes nothing.
-use mathlib.Core.Path.{_≡_, refl, sym, ap, _∙_}
+use mathlib.Core.Path.{_≡_, refl, _∙_}
 use mathlib.Core.List.{_++_, append-nil}
-use Prim.Native.Nat.{ℕ, _+_, _-_, _≤_, _<_}
+use Prim.Native.Nat.{_-_, _≤_}
 use native.Mathlib.Omega.{arith}
 use borrow.Author.Needs.{needs}
-use lib.IntN.{ℤ, pos}
-use lib.ListN.{length, getD, take, drop, replicate, length-drop}
-use lib.Seq.{getD-drop, take-all}
+use lib.IntN.{pos}
+use lib.ListN.{getD, take, drop, replicate}
+use lib.Seq.{take-all}
 use mir.Syntax.{w64}
 use mir.Val.{SFits}
 use mir.Facts.{toZ-ofZ}
-use Rattle.whole.specs.Tabulated.{copy-turn, drop-replicate}
+use Rattle.whole.specs.Tabulated.{copy-turn}
 use Rattle.months.proofs.inner.thirteen.Statement.{statement}
 use Rattle.months.proofs.inner.thirteen.Tie as tie
 

@@ -1,7 +1,7 @@
 -- `months::inner::year_in_range` meets its contract. Assumes nothing.
 use lib.IntN.{pos}
 use mir.Facts.{toZ-ofZ}
-use Rattle.months.specs.Months.{yearInRange}
+use Rattle.months.specs.Limits.{yearInRange}
 use Rattle.months.specs.theory.Kept.{below, not-below}
 use Rattle.months.proofs.inner.year_in_range.Statement.{statement}
 use Rattle.months.proofs.inner.year_in_range.Tie as tie
