@@ -8,7 +8,7 @@ use Rattle.months.specs.declared.SuiDays.{SuiDays}
 use Rattle.months.specs.declared.Sui.{Sui}
 use Rattle.months.specs.declared.DaysAnswer.{DaysAnswer}
 use Rattle.months.specs.declared.SuiAnswer.{SuiAnswer}
-use Rattle.months.specs.Months.{noMonth}
+use Rattle.months.specs.Handles.{noMonth}
 
 -- what stands in a refusal
 abbrev pub noDays : SuiDays

@@ -2,9 +2,9 @@
 -- once. Assumes nothing.
 use mathlib.Core.Bool.{Bool, true, false, cond, not, _&&_}
 use mathlib.Core.List.{List, [], _∷_, _++_}
-use Prim.Native.Nat.{ℕ, zero, suc, _+_, _-_, _*_}
+use Prim.Native.Nat.{ℕ, zero, suc, _+_, _-_}
 use lib.Dec.{T, eqb}
-use lib.IntN.{ℤ, pos, negsuc, _+ℤ_, _-ℤ_}
+use lib.IntN.{ℤ, pos, negsuc, _-ℤ_}
 use lib.ListN.{length, take, drop, replicate}
 use Rattle.whole.specs.Counted.{countOf}
 use Rattle.whole.specs.Evaluated.{same, all}
@@ -14,7 +14,11 @@ use Rattle.refusals.specs.Evaluated.{isAccepted, isRefused}
 use Rattle.months.specs.declared.Month.{Month}
 use Rattle.months.specs.declared.SuiDays.{SuiDays}
 use Rattle.months.specs.declared.Sui.{Sui}
-use Rattle.months.specs.Months.{numberAt, leapMark, handle, handleAt, monthOf, noMonth, notAfter, lastNotAfter, byFirst, bySecond, isMissing, moonMissing, monthCount, twelveOrThirteen, daysFound, daysOf, monthLength, isWithin, zhongqiIn, zhongqiOf, without, firstWithout, leapMonth, monthAt, numbered, goodLength, badMonth, firstBadMonth, lengthsJudged, noneWithout, leapJudged, suiOf, suiIn, yearInRange, rising, dayInRange, inRange, daysKept, listsKept, monthsOf}
+use Rattle.months.specs.declared.SuiAnswer.{SuiAnswer}
+use Rattle.months.specs.Answers.{suiAnswer, paperSui}
+use Rattle.months.specs.Handles.{numberAt, leapMark, handle, handleAt, monthOf, noMonth}
+use Rattle.months.specs.Months.{notAfter, lastNotAfter, byFirst, bySecond, isMissing, moonMissing, monthCount, twelveOrThirteen, daysFound, daysOf, monthLength, isWithin, zhongqiIn, zhongqiOf, without, firstWithout, leapMonth, monthAt, numbered, goodLength, badMonth, firstBadMonth, lengthsJudged, noneWithout, leapJudged, suiOf, suiIn}
+use Rattle.months.specs.Limits.{yearInRange, rising, dayInRange, inRange, daysKept, listsKept, monthsOf}
 
 -- ---- how the examples are written
 abbrev days : List ℕ → List ℤ
@@ -43,7 +47,7 @@ every step d (suc n) = d ∷ every step (d + step) n
 
 -- a month of the year 2000 by its number and mark, written 2 x number + mark, its first day and its length
 abbrev m : ℕ → ℕ → ℕ → Month
-m name first length = record { handle = pos (64000 + name); first = pos first; length = pos length }
+m name first n = record { handle = pos (64000 + name); first = pos first; length = pos n }
 
 abbrev sameMonths : List Month → List Month → Bool
 sameMonths [] [] = true
@@ -55,6 +59,10 @@ sameMonths (a ∷ as′) (b ∷ bs) = same (a .handle) (b .handle) && (same (a .
 abbrev isSui : Verdict Sui → List Month → Bool
 isSui (answered sui) months = eqb (sui .count) (length months) && sameMonths (sui .months) (months ++ replicate (13 - length months) noMonth)
 isSui (refused number segment) months = false
+
+-- a refusal by this number, and nothing beside it
+abbrev isRefusal : SuiAnswer → ℕ → Bool
+isRefusal r number = isRefused (paperSui r) number && (eqb (r .sui .count) 0 && sameMonths (r .sui .months) (replicate 13 noMonth))
 
 -- ---- document 01's lists
 abbrev moons : List ℕ
@@ -156,6 +164,9 @@ examples =
     ∷ isRefused (rule (onFrom 0 (30 ∷ 28 ∷ drop 2 lengths)) (every 26 20 13)) 9
     ∷ isRefused (suiOf (pos 2000) (allWith (onFrom 0 (30 ∷ 28 ∷ drop 2 lengths)))) 10
     ∷ isRefused (suiOf (pos 2000) (allWith moons)) 11
+    -- what a refusal holds
+    ∷ isRefusal (suiAnswer (rule [] zhongqi)) 8
+    ∷ isRefusal (suiAnswer (rule moons (every 1 1 13))) 9
     ∷ []
 
 pub examples-hold : T (all examples)

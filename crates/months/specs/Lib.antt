@@ -1,4 +1,6 @@
+pub mod Handles
 pub mod Months
+pub mod Limits
 pub mod Answers
 pub mod Examples
 pub mod Theorems

@@ -1,10 +1,10 @@
--- The month rule over days (document 01, "Months of a sui"), for any list of new-moon days and any list of zhongqi days; the limits of the public
--- entry stand at the end. Assumes nothing: these are definitions.
-use mathlib.Core.Bool.{Bool, true, false, cond, not, _&&_, _||_}
-use mathlib.Core.List.{List, [], _∷_, _++_}
-use Prim.Native.Nat.{ℕ, zero, suc, _+_, _-_, _*_, _%_}
+-- The month rule over days (document 01, "Months of a sui"), for any list of new-moon days and any list of zhongqi days. Assumes nothing: these are
+-- definitions.
+use mathlib.Core.Bool.{Bool, cond, not, _&&_, _||_}
+use mathlib.Core.List.{List, _++_}
+use Prim.Native.Nat.{ℕ, _+_, _-_}
 use lib.Dec.{eqb, leb, ltb}
-use lib.IntN.{ℤ, pos, negsuc, _+ℤ_, _-ℤ_, _*ℤ_}
+use lib.IntN.{ℤ, pos, _-ℤ_}
 use lib.ListN.{length, getD, take, drop, replicate}
 use lib.Signed.{leZ, ltZ}
 use Rattle.whole.specs.Counted.{countOf}
@@ -14,33 +14,7 @@ use Rattle.refusals.specs.Verdict.{Verdict, answered, refuseWhen, _before_, _th
 use Rattle.months.specs.declared.Month.{Month}
 use Rattle.months.specs.declared.SuiDays.{SuiDays}
 use Rattle.months.specs.declared.Sui.{Sui}
-
--- ---- numbers and handles. A place is counted from the sui's first month, 0
--- months number 11, 12, 1, .. 10
-abbrev pub ordinal : ℕ → ℕ
-ordinal place = (place + 10) % 12 + 1
-
--- with the leap month at place `leap`: it takes the number before it (11 places on is one place back), and so those behind it go on by one less
-unfoldable pub numberAt : ℕ → ℕ → ℕ
-numberAt leap place = cond (ltb place leap) (ordinal place) (ordinal (place + 11))
-
-unfoldable pub leapMark : ℕ → ℕ → ℕ
-leapMark leap place = cond (eqb place leap) 1 0
-
--- 32Y + 2 x number + 1 if leap
-unfoldable pub handle : ℤ → ℕ → ℕ → ℤ
-handle year number mark = pos 32 *ℤ year +ℤ pos (2 * number + mark)
-
-unfoldable pub handleAt : ℤ → ℕ → ℕ → ℤ
-handleAt year leap place = handle year (numberAt leap place) (leapMark leap place)
-
--- a month runs from its new-moon day to the day before the next
-unfoldable pub monthOf : ℤ → ℕ → ℕ → ℤ → ℤ → Month
-monthOf year leap place first next = record { handle = handleAt year leap place; first = first; length = next -ℤ first }
-
--- what stands where there is no month
-abbrev pub noMonth : Month
-noMonth = record { handle = pos 0; first = pos 0; length = pos 0 }
+use Rattle.months.specs.Handles.{monthOf, noMonth}
 
 -- ---- from two lists of days to the days of a sui
 -- how many of the days are not after `day`: where days rise, the first so many
@@ -133,7 +107,7 @@ numbered year days = record { count = days .months; months = tabulate (monthAt y
 
 -- 10 for a month of the sui that is not 29 or 30 days
 unfoldable pub goodLength : ℤ → Bool
-goodLength length = leZ (pos 29) length && leZ length (pos 30)
+goodLength n = leZ (pos 29) n && leZ n (pos 30)
 
 unfoldable pub badMonth : SuiDays → ℕ → Bool
 badMonth days place = not (goodLength (monthLength days place))
@@ -157,29 +131,3 @@ suiOf year days = lengthsJudged days before leapJudged days before answered (num
 -- ---- the month rule
 unfoldable pub suiIn : ℤ → List ℤ → List ℤ → Verdict Sui
 suiIn year moons zhongqi = daysOf moons zhongqi then suiOf year
-
--- ---- the public entry: Y from 1700 to 2500, at most 3,000 strictly rising new-moon days and exactly 13 strictly rising zhongqi days, all within
--- ±200,000; 8 otherwise
-unfoldable pub yearInRange : ℤ → Bool
-yearInRange year = leZ (pos 1700) year && leZ year (pos 2500)
-
-unfoldable pub rising : List ℤ → Bool
-rising [] = true
-rising (d ∷ []) = true
-rising (d ∷ e ∷ days) = ltZ d e && rising (e ∷ days)
-
-unfoldable pub dayInRange : ℤ → Bool
-dayInRange day = leZ (negsuc 199999) day && leZ day (pos 200000)
-
-unfoldable pub inRange : List ℤ → Bool
-inRange [] = true
-inRange (d ∷ days) = dayInRange d && inRange days
-
-unfoldable pub daysKept : List ℤ → Bool
-daysKept days = rising days && inRange days
-
-unfoldable pub listsKept : ℤ → List ℤ → List ℤ → Bool
-listsKept year moons zhongqi = yearInRange year && (leb (length moons) 3000 && (daysKept moons && (eqb (length zhongqi) 13 && daysKept zhongqi)))
-
-unfoldable pub monthsOf : ℤ → List ℤ → List ℤ → Verdict Sui
-monthsOf year moons zhongqi = refuseWhen (not (listsKept year moons zhongqi)) 8 before suiIn year moons zhongqi

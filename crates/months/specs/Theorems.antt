@@ -2,7 +2,7 @@
 -- months meet; one result. Each theorem assumes what its statement says and nothing else.
 use mathlib.Core.Path.{_≡_, refl, sym, ap, _∙_}
 use mathlib.Core.Bool.{true, false, not}
-use mathlib.Core.List.{List, [], _∷_}
+use mathlib.Core.List.{List}
 use Prim.Native.Nat.{ℕ, _+_, _-_, _*_, _/_, _%_, _≤_, _<_}
 use native.Mathlib.Omega.{arith}
 use lib.IntN.{ℤ, pos, _+ℤ_, _*ℤ_}
@@ -11,13 +11,14 @@ use lib.Signed.{_≤ℤ_, _<ℤ_}
 use borrow.Author.Tests.{not-false, ne-eqb}
 use Rattle.whole.specs.Floor.{floorDiv, floorMod, floorDiv-unique, floorMod-unique}
 use Rattle.whole.specs.Laws.{*-comm}
-use Rattle.whole.specs.Solver.{⇑, ⇓, ring, yes-lt, no-lt}
+use Rattle.whole.specs.Solver.{yes-lt, no-lt}
 use Rattle.refusals.specs.Verdict.{Verdict, answered, refused, test-answered, one-content}
-use Rattle.months.specs.declared.Month.{Month}
 use Rattle.months.specs.declared.SuiDays.{SuiDays}
 use Rattle.months.specs.declared.Sui.{Sui}
 use Rattle.months.specs.declared.SuiAnswer.{SuiAnswer}
-use Rattle.months.specs.Months.{numberAt, leapMark, handle, handleAt, monthOf, monthAt, notAfter, lastNotAfter, firstSolstice, secondSolstice, byFirst, bySecond, monthCount, daysOf, monthFirst, zhongqiIn, zhongqiOf, without, leapMonth, noneWithout, suiOf, suiIn, rising, listsKept, monthsOf}
+use Rattle.months.specs.Handles.{numberAt, leapMark, handle, handleAt}
+use Rattle.months.specs.Months.{notAfter, lastNotAfter, firstSolstice, secondSolstice, byFirst, bySecond, monthCount, daysOf, monthFirst, zhongqiIn, zhongqiOf, without, leapMonth, noneWithout, suiIn}
+use Rattle.months.specs.Limits.{rising, listsKept, monthsOf}
 use Rattle.months.specs.Answers.{suiAnswer, paperSui}
 use Rattle.months.specs.theory.Numbering.{before-leap, not-at-leap, number-small, mark-small, places-differ}
 use Rattle.months.specs.theory.Listed.{at-most-thirteen, zhongqiIn-turn, within-here}

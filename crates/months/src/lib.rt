@@ -1,10 +1,13 @@
 // The months of a sui, by the rule over days alone (document 01, "Months of a sui"). Nothing here knows of series, instants or dates.
 use refusals::Check;
 ghost use mathlib.Core.Path.{_≡_};
-ghost use Rattle.months.specs.Months.{monthsOf};
+ghost use Rattle.months.specs.Limits.{monthsOf};
 ghost use Rattle.months.specs.Answers.{suiAnswer};
 
+mod finding;
 pub mod inner;
+mod limits;
+mod numbering;
 
 // A month: its handle, its first day, and how many days it has.
 pub struct Month {
@@ -42,13 +45,13 @@ pub struct SuiAnswer {
 pub fn months_of(year: i64, moons: &[i64], zhongqi: &[i64]) -> SuiAnswer
     ensures { λ r. ⌜ r ≡ suiAnswer (monthsOf year (now (moons .entry)) (now (zhongqi .entry))) ⌝ }
 {
-    if !inner::lists_kept(year, moons, zhongqi) {
-        return inner::no_sui(refusals::NO_SUI);
+    if !limits::lists_kept(year, moons, zhongqi) {
+        return numbering::no_sui(refusals::NO_SUI);
     }
     let found = inner::days_of(moons, zhongqi);
     let check = found.check;
     if let Check::Refused(r) = check {
-        return inner::no_sui(r);
+        return numbering::no_sui(r);
     }
     inner::sui_of(year, found.days)
 }

@@ -1,14 +1,14 @@
 -- `months::months_of` meets its contract. In the needs, `start` is the function's entry. Assumes nothing.
 use mathlib.Core.Path.{_≡_, sym, ap, _∙_}
 use mathlib.Core.Bool.{true}
-use Prim.Native.Nat.{_≤_}
 use native.Mathlib.Omega.{arith}
 use borrow.Author.Needs.{needs}
 use borrow.Author.Tests.{not-true, not-false}
 use mir.Facts.{toZ-ofZ}
 use Rattle.whole.specs.Bounded.{all-wider}
 use Rattle.refusals.specs.Verdict.{answered}
-use Rattle.months.specs.Months.{daysOf, listsKept}
+use Rattle.months.specs.Months.{daysOf}
+use Rattle.months.specs.Limits.{listsKept}
 use Rattle.months.specs.Answers.{suiAnswer}
 use Rattle.months.specs.theory.Answered.{days-answered, days-refused, months-not-kept, months-refused, months-found}
 use Rattle.months.specs.theory.Days.{found-twelve, found-small}
@@ -18,8 +18,8 @@ use Rattle.months.proofs.months_of.Tie as tie
 use Rattle.months.proofs.months_of.Reads as reads
 use Rattle.months.proofs.months_of.Lts as lts
 use Rattle.months.proofs.inner.days_of.Reads as days-of-reads
-use Rattle.months.proofs.inner.lists_kept.Reads as lists-kept-reads
-use Rattle.months.proofs.inner.no_sui.Reads as no-sui-reads
+use Rattle.months.proofs.limits.lists_kept.Reads as lists-kept-reads
+use Rattle.months.proofs.numbering.no_sui.Reads as no-sui-reads
 use Rattle.months.proofs.inner.sui_of.Reads as sui-of-reads
 
 abbrev called : lts.Claims

@@ -1,17 +1,17 @@
 -- From the struct that is returned to the verdict that decides it, and from the verdicts of the parts to that of the month rule. Assumes nothing.
-use mathlib.Core.Path.{_≡_, refl, sym, ap, _∙_}
+use mathlib.Core.Path.{_≡_, sym, ap}
 use mathlib.Core.Bool.{true, false}
 use mathlib.Core.List.{List}
 use Prim.Native.Nat.{ℕ}
 use native.Mathlib.Omega.{arith}
 use lib.IntN.{ℤ}
 use Rattle.refusals.specs.declared.Refusal.{Refusal}
-use Rattle.refusals.specs.declared.Check.{Check}
 use Rattle.refusals.specs.declared.Check.the-variants.{Accepted, Refused}
 use Rattle.refusals.specs.Verdict.{Verdict, answered, refused, refusal}
 use Rattle.months.specs.declared.SuiDays.{SuiDays}
 use Rattle.months.specs.declared.DaysAnswer.{DaysAnswer}
-use Rattle.months.specs.Months.{daysOf, suiOf, suiIn, listsKept, monthsOf}
+use Rattle.months.specs.Months.{daysOf, suiOf, suiIn}
+use Rattle.months.specs.Limits.{listsKept, monthsOf}
 use Rattle.months.specs.Answers.{daysAnswer}
 
 pub days-answered : (r : DaysAnswer) (v : Verdict SuiDays) → r ≡ daysAnswer v → r .check ≡ Accepted → v ≡ answered (r .days)

@@ -1,8 +1,8 @@
 -- The limits of the public entry: what each turn of the loops that judge them tells, and what lists that keep them are like. Assumes nothing.
-use mathlib.Core.Path.{_≡_, refl, sym, ap, _∙_}
-use mathlib.Core.Bool.{Bool, true, false, not, _&&_}
+use mathlib.Core.Path.{_≡_, refl, ap, _∙_}
+use mathlib.Core.Bool.{Bool, true, false, _&&_}
 use mathlib.Core.List.{List, [], _∷_}
-use Prim.Native.Nat.{ℕ, zero, suc, _+_, _-_, _≤_, _<_}
+use Prim.Native.Nat.{ℕ, zero, suc, _+_, _≤_, _<_}
 use native.Mathlib.Omega.{arith}
 use native.Mathlib.Numerals.{add-one}
 use borrow.Author.Tests.{le-leb, lt-leb, eq-eqb, ne-eqb, eqb-true}
@@ -10,13 +10,12 @@ use lib.Dec.{eqb, leb}
 use lib.IntN.{ℤ, pos, negsuc}
 use lib.ListN.{length, getD, drop, length-drop, drop-of-length-le}
 use lib.Seq.{drop-cons}
-use lib.Signed.{leZ, ltZ, _≤ℤ_, _<ℤ_}
+use lib.Signed.{leZ, ltZ}
 use Rattle.whole.specs.Booleans.{both}
-use Rattle.whole.specs.Laws.{≤-<-trans, <→≤}
-use Rattle.whole.specs.Parts.{_⩽_, _≺_}
+use Rattle.whole.specs.Parts.{_⩽_}
 use Rattle.whole.specs.Ranges.{Within, All}
 use Rattle.whole.specs.Solver.{⇑, ⇓, ring, lt-yes, lt-no, le-yes, le-no, yes-lt, no-lt, yes-le, no-le}
-use Rattle.months.specs.Months.{yearInRange, rising, dayInRange, inRange, daysKept, listsKept}
+use Rattle.months.specs.Limits.{yearInRange, rising, dayInRange, inRange, daysKept, listsKept}
 
 -- ---- a conjunction, told from the left
 pub first-fails : (a b : Bool) → a ≡ false → false ≡ (a && b)

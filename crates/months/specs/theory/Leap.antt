@@ -1,16 +1,16 @@
 -- The leap month: where it stands in a sui of 13 and of 12 months, and what refusal 11 comes to in both. Assumes nothing.
-use mathlib.Core.Path.{_≡_, refl, sym, _∙_}
+use mathlib.Core.Path.{_≡_, refl, _∙_}
 use mathlib.Core.Bool.{Bool, true, false, cond, _&&_}
 use Prim.Native.Nat.{ℕ, _≤_, _<_}
 use native.Mathlib.Omega.{arith}
 use native.Mathlib.Decide.{decLt}
 use borrow.Author.Tests.{eq-eqb, ne-eqb, eqb-true, eqb-false}
 use lib.Dec.{eqb, ltb}
-use Rattle.refusals.specs.Verdict.{Verdict, answered, refused}
+use Rattle.refusals.specs.Verdict.{answered, refused}
 use Rattle.whole.specs.Found.{firstBelow, firstBelow-small, firstBelow-passes}
 use lib.IntN.{ℤ}
 use Rattle.months.specs.declared.SuiDays.{SuiDays}
-use Rattle.months.specs.Months.{twelveOrThirteen, without, firstWithout, leapMonth, noneWithout, leapJudged, lengthsJudged, firstBadMonth, numbered, suiOf}
+use Rattle.months.specs.Months.{without, firstWithout, leapMonth, noneWithout, leapJudged, lengthsJudged, firstBadMonth, numbered, suiOf}
 
 module _ (days : SuiDays) where
   pub leap-of-thirteen : days .months ≡ 13 → firstWithout days ≡ leapMonth days

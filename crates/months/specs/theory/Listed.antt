@@ -1,19 +1,17 @@
 -- What a loop over days has counted and judged, turn by turn. Assumes nothing.
-use mathlib.Core.Path.{_≡_, refl, sym, ap, _∙_}
-use mathlib.Core.Bool.{Bool, true, false, not, _&&_, _||_}
-use mathlib.Core.List.{List, [], _∷_}
-use Prim.Native.Nat.{ℕ, zero, suc, _+_, _-_, _≤_, _<_}
+use mathlib.Core.Path.{_≡_, refl}
+use mathlib.Core.Bool.{Bool, true, false, not, _||_}
+use mathlib.Core.List.{List}
+use Prim.Native.Nat.{ℕ, _+_, _≤_, _<_}
 use native.Mathlib.Omega.{arith}
-use native.Mathlib.Numerals.{add-one}
 use borrow.Author.Tests.{eq-eqb, ne-eqb, eqb-true, eqb-false, leb-false}
 use lib.Dec.{eqb, leb}
-use lib.IntN.{ℤ, pos, negsuc}
-use lib.ListN.{length, getD, drop, drop-of-length-le}
-use lib.Seq.{drop-cons}
+use lib.IntN.{ℤ, pos}
+use lib.ListN.{length, getD, drop}
 use lib.Signed.{leZ, ltZ}
 use Rattle.whole.specs.Solver.{lt-yes, lt-no, yes-le, no-le}
-use Rattle.whole.specs.Counted.{one, countOf, count-turn, count-end, count-small}
-use Rattle.months.specs.Months.{notAfter, isWithin, zhongqiIn, isMissing, twelveOrThirteen, goodLength, yearInRange, rising, dayInRange, inRange}
+use Rattle.whole.specs.Counted.{one, count-turn, count-end, count-small}
+use Rattle.months.specs.Months.{notAfter, isWithin, zhongqiIn, isMissing, twelveOrThirteen, goodLength}
 
 lt-not-le : (a b : ℤ) → ltZ a b ≡ not (leZ b a)
 lt-not-le a b = go (ltZ a b) refl

@@ -1,5 +1,5 @@
 -- Numbers, marks and handles: what a place before the leap month and one from it on is called, and how large they are. Assumes nothing.
-use mathlib.Core.Path.{_≡_, refl}
+use mathlib.Core.Path.{_≡_}
 use mathlib.Core.Bool.{Bool, true, false, cond}
 use Prim.Native.Nat.{ℕ, _+_, _%_, _≤_, _<_}
 use native.Mathlib.Omega.{arith}
@@ -7,7 +7,7 @@ use native.Mathlib.Decide.{decLt}
 use native.Mathlib.Nat.{mod-lt}
 use borrow.Author.Tests.{lt-ltb, le-ltb, eq-eqb, ne-eqb}
 use lib.Dec.{ltb, eqb}
-use Rattle.months.specs.Months.{ordinal, numberAt, leapMark}
+use Rattle.months.specs.Handles.{ordinal, numberAt, leapMark}
 
 module _ (leap place : ℕ) where
   pub before-leap : place < leap → ordinal place ≡ numberAt leap place

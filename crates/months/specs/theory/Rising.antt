@@ -1,7 +1,7 @@
 -- Days that rise: those not after a day are the first ones, as many as `notAfter` counts, and the last of them is `lastNotAfter`.
 -- Assumes nothing.
-use mathlib.Core.Path.{_≡_, refl, sym, ap, _∙_}
-use mathlib.Core.Bool.{Bool, true, false, _&&_}
+use mathlib.Core.Path.{_≡_, refl}
+use mathlib.Core.Bool.{Bool, true, false}
 use mathlib.Core.List.{List, [], _∷_}
 use Prim.Native.Nat.{ℕ, zero, suc, _+_, _-_, _≤_, _<_}
 use native.Mathlib.Omega.{arith}
@@ -14,7 +14,8 @@ use Rattle.whole.specs.Counted.{one, countOf}
 use Rattle.whole.specs.Laws.{≤-<-trans, <→≤, ≤-trans, ≤-of-≡}
 use Rattle.whole.specs.Solver.{lt-yes, le-yes, le-no, no-le}
 use Rattle.whole.specs.Parts.{ℤ-rules}
-use Rattle.months.specs.Months.{notAfter, lastNotAfter, rising}
+use Rattle.months.specs.Months.{notAfter, lastNotAfter}
+use Rattle.months.specs.Limits.{rising}
 use Rattle.months.specs.theory.Listed.{notAfter-small}
 
 module _ (day : ℤ) where
@@ -101,3 +102,12 @@ none-later day days r k h l = go (decLt k (notAfter day days))
         let e : k + (notAfter day days - 1 - k) ≡ notAfter day days - 1 = omega arith in
         rw e at (in-order days r k (notAfter day days - 1 - k) (omega (arith, notAfter-small day days)))
     go (no b) = let after = later-are-after day days r k (omega arith) h in absurd (omega ℤ-rules)
+
+-- what a search by halves shows: the count is known from the two days beside it
+pub notAfter-is : (day : ℤ) (days : List ℤ) → rising days ≡ true → (k : ℕ) → k ≤ length days → (0 < k → getD days (k - 1) (pos 0) ≤ℤ day) → (k < length days → day <ℤ getD days k (pos 0)) → notAfter day days ≡ k
+notAfter-is day days r k h before behind = go (decLt k (notAfter day days)) (decLt (notAfter day days) k)
+  where
+    go : Dec (k < notAfter day days) → Dec (notAfter day days < k) → notAfter day days ≡ k
+    go (yes l) d = let here = first-are-by day days r k l in let there = behind (omega (arith, notAfter-small day days)) in absurd (omega ℤ-rules)
+    go (no l) (yes m) = let here = before (omega arith) in let there = later-are-after day days r (k - 1) (omega arith) (omega arith) in absurd (omega ℤ-rules)
+    go (no l) (no m) = omega arith

@@ -1,19 +1,21 @@
 -- An accepted sui: its months are those of the definition, of good length, and a leap month is there where there are thirteen. Assumes nothing.
-use mathlib.Core.Path.{_≡_, refl, sym, ap, _∙_}
+use mathlib.Core.Path.{_≡_, refl, ap}
 use mathlib.Core.Bool.{true, false}
 use mathlib.Core.List.{List, [], _∷_}
-use Prim.Native.Nat.{ℕ, _+_, _-_, _≤_, _<_}
+use Prim.Native.Nat.{ℕ, _+_, _-_, _<_}
 use native.Mathlib.Omega.{arith}
-use lib.Dec.{eqb, ltb}
+use lib.Dec.{ltb}
 use lib.IntN.{ℤ, _+ℤ_}
 use lib.ListN.{length, getD, replicate}
 use Rattle.whole.specs.Solver.{⇑, ring}
 use Rattle.whole.specs.Tabulated.{getD-tabulate}
-use Rattle.refusals.specs.Verdict.{answered, refuseWhen, _before_, test-answered, then-answered, answers-apart}
+use Rattle.refusals.specs.Verdict.{answered, _before_, test-answered, then-answered, answers-apart}
 use Rattle.months.specs.declared.Month.{Month}
 use Rattle.months.specs.declared.SuiDays.{SuiDays}
 use Rattle.months.specs.declared.Sui.{Sui}
-use Rattle.months.specs.Months.{noMonth, handleAt, monthOf, monthFirst, leapMonth, monthAt, numbered, firstBadMonth, lengthsJudged, noneWithout, leapJudged, daysOf, suiOf, suiIn, rising}
+use Rattle.months.specs.Handles.{noMonth, handleAt, monthOf}
+use Rattle.months.specs.Months.{monthFirst, leapMonth, monthAt, numbered, firstBadMonth, lengthsJudged, noneWithout, leapJudged, daysOf, suiOf, suiIn}
+use Rattle.months.specs.Limits.{rising}
 
 -- the month at a place of a sui
 abbrev pub month : Sui → ℕ → Month

@@ -1,24 +1,24 @@
 -- Of thirteen months one has no zhongqi: the thirteenth zhongqi, the second solstice, lies on or after the sui's end, so at most twelve lie in the sui.
 -- Assumes nothing.
-use mathlib.Core.Path.{_≡_, refl, sym, ap, _∙_}
+use mathlib.Core.Path.{_≡_, refl}
 use mathlib.Core.Bool.{Bool, true, false, _&&_}
 use mathlib.Core.List.{List, [], _∷_}
 use Prim.Native.Nat.{ℕ, zero, suc, _+_, _-_, _≤_, _<_}
 use native.Mathlib.Omega.{arith}
-use native.Mathlib.Decide.{decLt}
-use borrow.Author.Tests.{eqb-true, eqb-false, ne-eqb}
+use borrow.Author.Tests.{eqb-true, eqb-false}
 use lib.Dec.{eqb}
 use lib.IntN.{ℤ, pos}
 use lib.ListN.{length, getD}
 use lib.Signed.{leZ, ltZ, _≤ℤ_, _<ℤ_}
 use Rattle.whole.specs.Counted.{one, one-small, countOf, count-small}
-use Rattle.whole.specs.Found.{firstBelow-small, firstBelow-before}
-use Rattle.whole.specs.Laws.{≤-trans, <-≤-trans}
+use Rattle.whole.specs.Found.{firstBelow-before}
+use Rattle.whole.specs.Laws.{<-≤-trans}
 use Rattle.whole.specs.Parts.{ℤ-rules}
-use Rattle.whole.specs.Solver.{lt-yes, lt-no, le-yes, le-no, yes-lt, no-lt, yes-le, no-le}
+use Rattle.whole.specs.Solver.{lt-yes, lt-no, le-no, yes-lt, no-lt, yes-le, no-le}
 use Rattle.refusals.specs.Verdict.{answered}
 use Rattle.months.specs.declared.SuiDays.{SuiDays}
-use Rattle.months.specs.Months.{isWithin, zhongqiIn, zhongqiOf, without, firstWithout, noneWithout, monthFirst, daysOf, rising, byFirst, bySecond, monthCount, notAfter, lastNotAfter, secondSolstice}
+use Rattle.months.specs.Months.{isWithin, zhongqiIn, zhongqiOf, without, firstWithout, noneWithout, monthFirst, daysOf, byFirst, bySecond, monthCount, lastNotAfter, secondSolstice}
+use Rattle.months.specs.Limits.{rising}
 use Rattle.months.specs.theory.Days.{found-first, found-months, found-listed, found-count, found-zhongqi}
 use Rattle.months.specs.theory.Listed.{at-most-thirteen}
 use Rattle.months.specs.theory.Rising.{in-order, last-is-by}

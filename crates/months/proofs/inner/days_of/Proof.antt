@@ -1,6 +1,6 @@
 -- `months::inner::days_of` meets its contract. In the needs, `start` is the function's entry. Assumes nothing.
 use mathlib.Core.Path.{_≡_, sym, ap, _∙_}
-use mathlib.Core.Bool.{true, false}
+use mathlib.Core.Bool.{false}
 use Prim.Native.Nat.{_+_, _-_, _≤_, _<_}
 use native.Mathlib.Omega.{arith}
 use borrow.Author.Needs.{needs}
@@ -10,7 +10,7 @@ use lib.ListN.{length, getD}
 use mir.Syntax.{w64}
 use mir.Val.{SFits}
 use mir.Facts.{toZ-ofZ}
-use Rattle.months.specs.Months.{byFirst, bySecond, moonMissing, monthCount, twelveOrThirteen, daysFound, daysOf}
+use Rattle.months.specs.Months.{byFirst, bySecond, moonMissing, monthCount, twelveOrThirteen, daysFound}
 use Rattle.months.specs.Answers.{daysAnswer}
 use Rattle.months.specs.theory.Listed.{at-most-thirteen}
 use Rattle.months.specs.theory.Days.{days-missing, days-other-count, days-are-found, some-listed}
@@ -18,13 +18,13 @@ use Rattle.months.proofs.inner.days_of.Statement.{statement}
 use Rattle.months.proofs.inner.days_of.Tie as tie
 use Rattle.months.proofs.inner.days_of.Reads as reads
 use Rattle.months.proofs.inner.days_of.Lts as lts
-use Rattle.months.proofs.inner.fourteen.Reads as fourteen-reads
-use Rattle.months.proofs.inner.month_count.Reads as month-count-reads
-use Rattle.months.proofs.inner.moon_missing.Reads as moon-missing-reads
-use Rattle.months.proofs.inner.no_days.Reads as no-days-reads
+use Rattle.months.proofs.finding.fourteen.Reads as fourteen-reads
+use Rattle.months.proofs.finding.month_count.Reads as month-count-reads
+use Rattle.months.proofs.finding.moon_missing.Reads as moon-missing-reads
+use Rattle.months.proofs.finding.no_days.Reads as no-days-reads
 use Rattle.months.proofs.inner.not_after.Reads as not-after-reads
-use Rattle.months.proofs.inner.thirteen.Reads as thirteen-reads
-use Rattle.months.proofs.inner.twelve_or_thirteen.Reads as twelve-or-thirteen-reads
+use Rattle.months.proofs.finding.thirteen.Reads as thirteen-reads
+use Rattle.months.proofs.finding.twelve_or_thirteen.Reads as twelve-or-thirteen-reads
 
 abbrev called : lts.Claims
 called = (

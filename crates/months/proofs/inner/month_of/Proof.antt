@@ -5,7 +5,7 @@ use mir.Val.{SFits}
 use mir.Facts.{toZ-ofZ}
 use borrow.Author.Needs.{needs}
 use Rattle.whole.specs.Ranges.{fits, bounds}
-use Rattle.months.specs.Months.{handleAt, monthOf}
+use Rattle.months.specs.Handles.{handleAt, monthOf}
 use Rattle.months.specs.theory.Numbering.{number-small, mark-small}
 use Rattle.months.proofs.inner.month_of.Statement.{statement}
 use Rattle.months.proofs.inner.month_of.Tie as tie

@@ -15,7 +15,7 @@ use Rattle.months.proofs.inner.not_after.Statement.{statement}
 use Rattle.months.proofs.inner.not_after.Tie as tie
 use Rattle.months.proofs.inner.not_after.Reads as reads
 use Rattle.months.proofs.inner.not_after.Lts as lts
-use Rattle.months.proofs.inner.counts.Reads as counts-reads
+use Rattle.months.proofs.finding.counts.Reads as counts-reads
 
 abbrev Inv-loop : tie.InvT-loop
 Inv-loop days day n₀ i₀ n i = (i ≤ length days) × (n + notAfter (toZ w64 day) (drop i days) ≡ notAfter (toZ w64 day) days)

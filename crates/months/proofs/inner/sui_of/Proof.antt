@@ -1,13 +1,12 @@
 -- `months::inner::sui_of` meets its contract. In the needs, `start` is the function's entry. Assumes nothing.
 use mathlib.Core.Path.{_≡_, sym, ap, _∙_}
 use mathlib.Core.Bool.{true, false}
-use native.Mathlib.Omega.{arith}
 use borrow.Author.Needs.{needs}
 use borrow.Author.Tests.{lt-ltb, le-ltb, eq-eqb, ne-eqb}
 use lib.Dec.{eqb, ltb}
 use mir.Facts.{toZ-ofZ}
 use Prim.Native.Nat.{_≤_}
-use Rattle.months.specs.Months.{firstBadMonth, leapMonth, noneWithout, numbered, suiOf}
+use Rattle.months.specs.Months.{firstBadMonth, noneWithout, numbered}
 use Rattle.months.specs.Answers.{suiAnswer}
 use Rattle.months.specs.theory.Listed.{at-most-thirteen}
 use Rattle.months.specs.theory.Leap.{none-without, sui-bad-length, sui-none-without, sui-numbered}
@@ -15,10 +14,10 @@ use Rattle.months.proofs.inner.sui_of.Statement.{statement}
 use Rattle.months.proofs.inner.sui_of.Tie as tie
 use Rattle.months.proofs.inner.sui_of.Reads as reads
 use Rattle.months.proofs.inner.sui_of.Lts as lts
-use Rattle.months.proofs.inner.first_bad_month.Reads as first-bad-month-reads
-use Rattle.months.proofs.inner.leap_month.Reads as leap-month-reads
-use Rattle.months.proofs.inner.no_sui.Reads as no-sui-reads
-use Rattle.months.proofs.inner.numbered.Reads as numbered-reads
+use Rattle.months.proofs.numbering.first_bad_month.Reads as first-bad-month-reads
+use Rattle.months.proofs.numbering.leap_month.Reads as leap-month-reads
+use Rattle.months.proofs.numbering.no_sui.Reads as no-sui-reads
+use Rattle.months.proofs.numbering.numbered.Reads as numbered-reads
 
 abbrev called : lts.Claims
 called = (
