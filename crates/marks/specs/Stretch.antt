@@ -36,3 +36,7 @@ module _ (s : Series) where
 
   abbrev pub BracketOf : (j lo hi below above : ℤ) → Type 0
   BracketOf = Bracket (valueAt s) (numbers (s .body) .markSize) (s .start) (lastSecond s)
+
+  -- the same, at the values themselves
+  abbrev pub Around : (j lo hi : ℤ) → Type 0
+  Around j lo hi = BracketOf j lo hi (valueAt s lo) (valueAt s hi)

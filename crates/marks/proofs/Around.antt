@@ -1,0 +1,52 @@
+-- What two seconds around a mark tell: both lie in the span, and so does what lies inside; the mark's value is small. Assumes nothing.
+use Prim.Native.Nat.{_≤_}
+use lib.IntN.{ℤ, pos, _*ℤ_}
+use Rattle.whole.specs.Parts.{ℤ-rules, parts-add}
+use Rattle.whole.specs.Laws.{<→≤, ≤-trans, abs→, →abs}
+use Rattle.whole.specs.Ranges.{Within}
+use Rattle.whole.specs.Distance.{distanceFrom, lies-after}
+use lib.Dec.{lit≤}
+use Rattle.series.specs.declared.Body.{Body}
+use Rattle.series.specs.declared.Body.the-variants.{Sun, Moon}
+use Rattle.series.specs.Bodies.{numbers}
+use Rattle.series.specs.Series.{Series, InSpan, lastSecond}
+use Rattle.series.specs.Acceptance.{Accepted}
+use Rattle.series.specs.theory.Known.{facts}
+use Rattle.series.specs.theory.Span.{span-few, span-ordered, value-in-span}
+use Rattle.marks.specs.Stretch.{Around}
+use Rattle.marks.proofs.Halves.{Inside}
+
+module _ (s : Series) (e : Accepted s) where
+  -- a second of the span is small
+  pub second-small : {second : ℤ} → InSpan s second → Within 20000000000 second
+  second-small {second} i =
+      let f = facts s e in
+      let early = f .not-too-early in
+      let late = f .not-too-late in
+      let low = i .from-start in
+      let high = i .to-last in
+      let few = span-few s e in
+      let after = lies-after (span-ordered s e) in
+      let p = parts-add (s .start) (pos (distanceFrom (s .start) (lastSecond s))) in
+      record { within = →abs {z = second} 20000000000 (omega ℤ-rules) (omega ℤ-rules) }
+
+  module _ {j lo hi : ℤ} (a : Around s j lo hi) where
+    pub lo-in-span : InSpan s lo
+    lo-in-span = record { from-start = a .from-first; to-last = ≤-trans (<→≤ (a .ordered)) (a .by-last) }
+
+    pub hi-in-span : InSpan s hi
+    hi-in-span = record { from-start = ≤-trans (a .from-first) (<→≤ (a .ordered)); to-last = a .by-last }
+
+    pub inside-in-span : {middle : ℤ} → Inside lo hi middle → InSpan s middle
+    inside-in-span i = record { from-start = ≤-trans (a .from-first) (<→≤ (i .after-lo)); to-last = ≤-trans (<→≤ (i .before-hi)) (a .by-last) }
+
+    pub mark-small : Within 1000100000000000 (j *ℤ pos (numbers (s .body) .markSize))
+    mark-small =
+        let below = abs→ 1000100000000000 (value-in-span s e lo-in-span .within) .0 in
+        let above = abs→ 1000100000000000 (value-in-span s e hi-in-span .within) .1 in
+        record { within = →abs {z = j *ℤ pos (numbers (s .body) .markSize)} 1000100000000000 (≤-trans below (<→≤ (a .under))) (≤-trans (a .reaching) above) }
+
+-- a series has few segments
+pub few-segments : (body : Body) → numbers body .mostSegments ≤ 16000
+few-segments Sun = lit≤ tt
+few-segments Moon = lit≤ tt
