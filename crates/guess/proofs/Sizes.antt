@@ -37,7 +37,7 @@ doubled-positive {a} h = let ρ = a ∷ [] in ⇑ ρ (search ring) (omega (arith
 
 -- ---- a product by a place
 -- a quotient is as much smaller as the divisor is larger
-floor-small : (z : ℤ) (m n : ℕ) → 0 < m → natAbs z ≤ n * m → natAbs (floorDiv z m) ≤ n
+pub floor-small : (z : ℤ) (m n : ℕ) → 0 < m → natAbs z ≤ n * m → natAbs (floorDiv z m) ≤ n
 unfolding floorDiv
 floor-small (pos a) m n p h = div-le-of-le-mul m (omega arith)
 floor-small (negsuc a) m n p h = let l : a / m < n = div-lt-iff-lt-mul {k = m} {x = a} {y = n} p .1 (omega arith) in omega arith

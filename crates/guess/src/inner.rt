@@ -51,7 +51,15 @@ fn segment_near(number: i64, segments: usize) -> usize
     if n < segments { n } else { segments - 1 }
 }
 
-// The segment to begin with: by proportion between the first c0 and the last.
+// So many 256 units.
+fn coarse(units: i64) -> i64
+    requires { ⌜ Within 3000000000000000 units ⌝ }
+    ensures { λ r. ⌜ Within 11718750000000 r ⌝ }
+{
+    units >> 8
+}
+
+// The segment to begin with: the nearest by proportion between the first c0 and the last.
 pub fn hint(first: i64, last: i64, segments: usize, target: i64) -> usize
     requires { ⌜ Within 1000000000000000 first ⌝ }
     requires { ⌜ Within 1000000000000000 last ⌝ }
@@ -59,12 +67,9 @@ pub fn hint(first: i64, last: i64, segments: usize, target: i64) -> usize
     requires { ⌜ Within 2000000000000000 target ⌝ }
     ensures { λ r. ⌜ r < segments ⌝ }
 {
-    if segments == 1 {
-        return 0;
-    }
-    let steps = whole::inner::signed(segments - 1);
-    let each = at_least(1, whole::inner::floor_div(last - first, steps));
-    segment_near(whole::inner::floor_div(target - first, each), segments)
+    let all = at_least(1, coarse(last - first));
+    let part = coarse(target - first) * whole::inner::signed(segments - 1);
+    segment_near(whole::inner::floor_div(2 * part + all, 2 * all), segments)
 }
 
 // A segment nearer to the target than segment k, as far as its c0 and c1 tell: c0 is the value near its middle, c1 the rise of half of it. It is k where the target

@@ -187,6 +187,19 @@ pub struct ListedMark {
     pub second: Second,
 }
 
+// The k-th listed mark, counted from 0, given how many marks are reached at the first second: it is the same for all of them.
+pub fn nth_after(body: Body, start: Second, coefs: &[i64], lowest: i64, k: usize) -> ListedMark
+    requires { ⌜ Accepted (series body (start .0) (now coefs)) ⌝ }
+    requires { ⌜ lowest ≡ firstReached (series body (start .0) (now coefs)) ⌝ }
+    requires { ⌜ k < length (listedMarks (series body (start .0) (now coefs))) ⌝ }
+    ensures { λ r. ⌜ markOf r ≡ getD (listedMarks (series body (start .0) (now (coefs .entry)))) k noMark ⌝ }
+{
+    let next = whole::inner::add(lowest, 1);
+    let index = whole::inner::add(next, whole::inner::signed(k));
+    let second = locate(body, start, coefs, index);
+    ListedMark { index, second }
+}
+
 // The k-th listed mark, counted from 0.
 pub fn nth_mark(body: Body, start: Second, coefs: &[i64], k: usize) -> ListedMark
     requires { ⌜ Accepted (series body (start .0) (now coefs)) ⌝ }
@@ -194,8 +207,5 @@ pub fn nth_mark(body: Body, start: Second, coefs: &[i64], k: usize) -> ListedMar
     ensures { λ r. ⌜ markOf r ≡ getD (listedMarks (series body (start .0) (now (coefs .entry)))) k noMark ⌝ }
 {
     let lowest = first_reached(body, start, coefs);
-    let next = whole::inner::add(lowest, 1);
-    let index = whole::inner::add(next, whole::inner::signed(k));
-    let second = locate(body, start, coefs, index);
-    ListedMark { index, second }
+    nth_after(body, start, coefs, lowest, k)
 }
