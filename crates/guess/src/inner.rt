@@ -1,15 +1,16 @@
 // Where the locator looks. Any second inside a stretch keeps its proof, so what is promised here is only that, and that no sum or product on the way is too large.
 ghost use mathlib.Core.Path.{_≡_};
 ghost use mathlib.Core.Bool.{not, _&&_};
-ghost use Prim.Native.Nat.{_+_, _*_, _^_, _/_, _≤_, _<_};
+ghost use Prim.Native.Nat.{_^_, _/_, _≤_, _<_};
 ghost use lib.Dec.{ltb};
 ghost use lib.IntN.{pos, natAbs};
 ghost use lib.Signed.{_≤ℤ_, _<ℤ_};
 ghost use Rattle.whole.specs.Ranges.{Within};
-ghost use Rattle.guess.specs.Sizes.{Raised, Doubled, Between};
+ghost use Rattle.guess.specs.Sizes.{Raised, Doubled, Between, Aim};
 
 // ---- numbers kept in a range
 
+// a, or the nearer of -most and most.
 fn at_most(most: i64, a: i64) -> i64
     requires { ⌜ pos 0 ≤ℤ most ⌝ }
     ensures { λ r. ⌜ Within (natAbs most) r ⌝ }
@@ -21,12 +22,14 @@ fn at_most(most: i64, a: i64) -> i64
     if most < a { most } else { a }
 }
 
+// a, or what it must at least be.
 fn at_least(least: i64, a: i64) -> i64
     ensures { λ r. ⌜ Raised least a r ⌝ }
 {
     if a < least { least } else { a }
 }
 
+// a, or the nearer of the first and the last.
 fn between(first: i64, last: i64, a: i64) -> i64
     requires { ⌜ first ≤ℤ last ⌝ }
     ensures { λ r. ⌜ Between first last r ⌝ }
@@ -51,7 +54,7 @@ fn segment_near(number: i64, segments: usize) -> usize
     if n < segments { n } else { segments - 1 }
 }
 
-// So many 256 units.
+// In units of 256.
 fn coarse(units: i64) -> i64
     requires { ⌜ Within 3000000000000000 units ⌝ }
     ensures { λ r. ⌜ Within 11718750000000 r ⌝ }
@@ -123,7 +126,7 @@ fn step(goal: i64, a1: i64, a2: i64, a3: i64, place: i64) -> Aimed
     requires { ⌜ Within 8000000000 a2 ⌝ }
     requires { ⌜ Within 16000000000 a3 ⌝ }
     requires { ⌜ Within 1048576 place ⌝ }
-    ensures { λ r. ⌜ Within 2097152 (r .place) × (pos 16777216 ≤ℤ (r .slope)) ⌝ }
+    ensures { λ r. ⌜ Aim (r .place) (r .slope) ⌝ }
 {
     let cubic = times(a3, place);
     let mean = a1 + times(a2 + cubic, place);
@@ -142,7 +145,7 @@ pub fn aim(c0: i64, c1: i64, c2: i64, c3: i64, target: i64) -> Aimed
     requires { ⌜ Within 4000000000 c2 ⌝ }
     requires { ⌜ Within 4000000000 c3 ⌝ }
     requires { ⌜ Within 2000000000000000 target ⌝ }
-    ensures { λ r. ⌜ Within 2097152 (r .place) × (pos 16777216 ≤ℤ (r .slope)) ⌝ }
+    ensures { λ r. ⌜ Aim (r .place) (r .slope) ⌝ }
 {
     let goal = at_most(8000000000, target - c0) + c2;
     let a1 = at_least(16777216, c1 - 3 * c3);

@@ -1,10 +1,12 @@
--- What two seconds around a mark tell: both lie in the span, and so does what lies inside; the mark's value is small. Assumes nothing.
+-- What two seconds around a mark tell: both lie in the span, and so does what lies inside; the mark's value is small. Then what is looked through for its
+-- segment. Assumes nothing.
 use Prim.Native.Nat.{_≤_}
 use lib.IntN.{ℤ, pos, _*ℤ_}
 use Rattle.whole.specs.Parts.{ℤ-rules, parts-add}
 use Rattle.whole.specs.Laws.{<→≤, ≤-trans, abs→, →abs}
 use Rattle.whole.specs.Ranges.{Within}
 use Rattle.whole.specs.Distance.{distanceFrom, lies-after}
+use native.Mathlib.Omega.{arith}
 use lib.Dec.{lit≤}
 use Rattle.series.specs.declared.Body.{Body}
 use Rattle.series.specs.declared.Body.the-variants.{Sun, Moon}
@@ -13,7 +15,7 @@ use Rattle.series.specs.Series.{Series, InSpan, lastSecond}
 use Rattle.series.specs.Acceptance.{Accepted}
 use Rattle.series.specs.theory.Known.{facts}
 use Rattle.series.specs.theory.Span.{span-few, span-ordered, value-in-span}
-use Rattle.marks.specs.Stretch.{Around}
+use Rattle.marks.specs.Stretch.{Around, Searched}
 use Rattle.marks.proofs.Halves.{Inside}
 
 module _ (s : Series) (e : Accepted s) where
@@ -46,7 +48,14 @@ module _ (s : Series) (e : Accepted s) where
         let above = abs→ 1000100000000000 (value-in-span s e hi-in-span .within) .1 in
         record { within = →abs {z = j *ℤ pos (numbers (s .body) .markSize)} 1000100000000000 (≤-trans below (<→≤ (a .under))) (≤-trans (a .reaching) above) }
 
--- a series has few segments
-pub few-segments : (body : Body) → numbers body .mostSegments ≤ 16000
+few-segments : (body : Body) → numbers body .mostSegments ≤ 16000
 few-segments Sun = lit≤ tt
 few-segments Moon = lit≤ tt
+
+-- a segment can be looked for
+pub searched : (s : Series) → Accepted s → Searched (s .coefs)
+searched s e =
+    let f = facts s e in
+    let most = few-segments (s .body) in
+    let many = f .not-too-many in
+    record { ranged = f .ranged; some = f .some-segment; few = omega arith }

@@ -5,18 +5,18 @@ use times::Second;
 ghost use mathlib.Core.Path.{_≡_};
 ghost use Prim.Native.Nat.{_<_, _≤_};
 ghost use lib.IntN.{pos};
-ghost use lib.Signed.{_≤ℤ_, _<ℤ_};
+ghost use lib.Signed.{_<ℤ_};
 ghost use Rattle.whole.specs.Ranges.{Within};
+ghost use Rattle.guess.specs.Sizes.{Aim};
 ghost use Rattle.series.specs.Series.{series, segments, InSpan, lastSecond};
-ghost use Rattle.series.specs.Facts.{Ranged};
 ghost use Rattle.series.specs.Acceptance.{Accepted};
-ghost use Rattle.marks.specs.Stretch.{Around};
+ghost use Rattle.marks.specs.Stretch.{Around, Searched};
 
 // ---- where to look first
 
 // c0 of segment k.
 fn constant(coefs: &[i64], k: usize) -> i64
-    requires { ⌜ Ranged (now coefs) ⌝ }
+    requires { ⌜ Searched (now coefs) ⌝ }
     requires { ⌜ k < segments (now coefs) ⌝ }
     ensures { λ r. ⌜ Within 1000000000000000 r ⌝ }
 {
@@ -26,7 +26,7 @@ fn constant(coefs: &[i64], k: usize) -> i64
 
 // c(n) of segment k, for another n.
 fn other(coefs: &[i64], k: usize, n: usize) -> i64
-    requires { ⌜ Ranged (now coefs) ⌝ }
+    requires { ⌜ Searched (now coefs) ⌝ }
     requires { ⌜ k < segments (now coefs) ⌝ }
     requires { ⌜ (1 ≤ n) × (n < 14) ⌝ }
     ensures { λ r. ⌜ Within 4000000000 r ⌝ }
@@ -37,8 +37,7 @@ fn other(coefs: &[i64], k: usize, n: usize) -> i64
 
 // The segment to begin with.
 fn hinted(coefs: &[i64], target: i64) -> usize
-    requires { ⌜ Ranged (now coefs) ⌝ }
-    requires { ⌜ (0 < segments (now coefs)) × (segments (now coefs) ≤ 16000) ⌝ }
+    requires { ⌜ Searched (now coefs) ⌝ }
     requires { ⌜ Within 2000000000000000 target ⌝ }
     ensures { λ r. ⌜ r < segments (now (coefs .entry)) ⌝ }
 {
@@ -50,8 +49,8 @@ fn hinted(coefs: &[i64], target: i64) -> usize
 
 // From segment k to one nearer to the target, or k.
 fn nearer(coefs: &[i64], k: usize, target: i64) -> usize
-    requires { ⌜ Ranged (now coefs) ⌝ }
-    requires { ⌜ (k < segments (now coefs)) × (segments (now coefs) ≤ 16000) ⌝ }
+    requires { ⌜ Searched (now coefs) ⌝ }
+    requires { ⌜ k < segments (now coefs) ⌝ }
     requires { ⌜ Within 2000000000000000 target ⌝ }
     ensures { λ r. ⌜ r < segments (now (coefs .entry)) ⌝ }
 {
@@ -62,8 +61,7 @@ fn nearer(coefs: &[i64], k: usize, target: i64) -> usize
 
 // The segment of the target as far as c0 and c1 tell, in at most eight passes.
 fn segment_for(coefs: &[i64], target: i64) -> usize
-    requires { ⌜ Ranged (now coefs) ⌝ }
-    requires { ⌜ (0 < segments (now coefs)) × (segments (now coefs) ≤ 16000) ⌝ }
+    requires { ⌜ Searched (now coefs) ⌝ }
     requires { ⌜ Within 2000000000000000 target ⌝ }
     ensures { λ r. ⌜ r < segments (now (coefs .entry)) ⌝ }
 {
@@ -82,10 +80,10 @@ fn segment_for(coefs: &[i64], target: i64) -> usize
 
 // The place in segment k.
 fn place_for(coefs: &[i64], k: usize, target: i64) -> Aimed
-    requires { ⌜ Ranged (now coefs) ⌝ }
+    requires { ⌜ Searched (now coefs) ⌝ }
     requires { ⌜ k < segments (now coefs) ⌝ }
     requires { ⌜ Within 2000000000000000 target ⌝ }
-    ensures { λ r. ⌜ Within 2097152 (r .place) × (pos 16777216 ≤ℤ (r .slope)) ⌝ }
+    ensures { λ r. ⌜ Aim (r .place) (r .slope) ⌝ }
 {
     let c0 = constant(coefs, k);
     let c1 = other(coefs, k, 1);

@@ -1,6 +1,6 @@
 -- `guess::inner::ahead` meets its contract. Assumes nothing.
 use borrow.Author.Needs.{needs}
-use Rattle.whole.specs.Ranges.{Within, fits, within, within≤, back, bounds, bound-back, bound-eq}
+use Rattle.whole.specs.Ranges.{Within, fits, within, within≤, bounds, bound-back, bound-eq}
 use Rattle.whole.specs.Floor.{bound-floor}
 use native.Mathlib.Omega.{arith}
 use Rattle.guess.proofs.inner.ahead.Statement.{statement}

@@ -1,10 +1,9 @@
 -- `guess::inner::step` meets its contract. Assumes nothing.
 use Rattle.whole.specs.Ranges.{Within, fits, within, bounds, back, bound-back}
 use Rattle.whole.specs.Laws.{<-≤-trans}
-use mir.Facts.{toZ-ofZ}
 use borrow.Author.Needs.{needs}
 use lib.Signed.{ltZ-yes}
-use Rattle.guess.proofs.Sizes.{bound-raised, bound-doubled}
+use Rattle.guess.proofs.Sizes.{bound-doubled}
 use Rattle.guess.proofs.inner.step.Statement.{statement}
 use Rattle.guess.proofs.inner.step.Tie as tie
 use Rattle.guess.proofs.inner.step.Reads as reads
@@ -77,7 +76,7 @@ returns : tie.Need-returns
 returns c =
     let r = c .ratio .ensures in
     let s = c .before .before .at-least in
-    (within (search (bounds, bound-back (add-t12 c))) tt, rw (back (s .result) (s .ok)) (s .ensures .not-less))
+    rw (back (s .result) (s .ok)) (record { near = within (search (bounds, bound-back (add-t12 c))) tt; steep = s .ensures .not-less })
 
 pub step-spec : {M : Type 1} → statement M
 step-spec =

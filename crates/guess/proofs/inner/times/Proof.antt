@@ -1,5 +1,4 @@
 -- `guess::inner::times` meets its contract. Assumes nothing.
-use mathlib.Core.Path.{_≡_}
 use mir.Facts.{toZ-ofZ}
 use Rattle.whole.specs.Ranges.{fits, bounds}
 use Rattle.whole.specs.Division.{shr-back}

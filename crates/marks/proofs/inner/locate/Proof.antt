@@ -1,10 +1,9 @@
 -- `marks::inner::locate` meets its contract. Assumes nothing.
-use mathlib.Core.Path.{_≡_, refl}
+use mathlib.Core.Path.{refl}
 use borrow.Author.Needs.{needs}
 use mir.Facts.{toZ-ofZ}
 use Rattle.whole.specs.Ranges.{within, back, fit-hyp, bounds}
 use Rattle.series.specs.Series.{Series, series, lastSecond}
-use Rattle.series.specs.Acceptance.{Accepted}
 use Rattle.series.specs.Theorems.{accepted-rises}
 use Rattle.series.specs.theory.Span.{span-ordered}
 use Rattle.marks.specs.Stretch.{Around}

@@ -18,7 +18,7 @@ shared-slice-copy-out-result c =
 returns : tie.Need-returns
 returns c =
     let start = c .before .before in
-    let small = start .pre .0 .in-range (start .args .k) (start .pre .1) .constant in
+    let small = start .pre .0 .ranged .in-range (start .args .k) (start .pre .1) .constant in
     rw (c .before .segment-of .ensures, toZ-ofZ (fit-hyp small tt)) small
 
 pub constant-spec : {M : Type 1} → statement M

@@ -21,7 +21,7 @@ shared-slice-copy-out-result c =
 returns : tie.Need-returns
 returns c =
     let start = c .before .before in
-    let small = start .pre .0 .in-range (start .args .k) (start .pre .1 .0) .others (start .args .n) (start .pre .1 .1 .0) in
+    let small = start .pre .0 .ranged .in-range (start .args .k) (start .pre .1 .0) .others (start .args .n) (start .pre .1 .1 .0) in
     rw (c .before .segment-of .ensures, toZ-ofZ (fit-hyp small tt)) small
 
 pub other-spec : {M : Type 1} → statement M

@@ -2,18 +2,18 @@
 use mathlib.Core.Path.{_≡_, _∙_}
 use native.Mathlib.Omega.{arith}
 use borrow.Author.Needs.{needs}
-use lib.IntN.{pos}
 use lib.Signed.{ltZ-yes}
 use mir.Syntax.{w64}
 use mir.Val.{ofZ, toZ}
 use Rattle.whole.specs.Laws.{<-≤-trans, →abs}
 use Rattle.whole.specs.Ranges.{within, back, bounds}
-use Rattle.series.specs.Bodies.{numbers, body-laws}
+use Rattle.series.specs.Bodies.{body-laws}
 use Rattle.series.specs.Series.{Series, series, lastSecond}
 use Rattle.series.specs.Facts.{Facts}
 use Rattle.series.specs.theory.Known.{facts}
 use Rattle.series.specs.theory.Span.{span-ordered}
-use Rattle.marks.proofs.Around.{few-segments}
+use Rattle.marks.specs.Stretch.{Searched}
+use Rattle.marks.proofs.Around.{searched}
 use Rattle.marks.proofs.looks.second_for.Statement.{statement}
 use Rattle.marks.proofs.looks.second_for.Tie as tie
 use Rattle.marks.proofs.looks.second_for.Reads as reads
@@ -35,6 +35,9 @@ series-of c = let start = c .before .before .before in series (start .args .body
 at-facts : (c : lts.After-struct-told2 called reads.Pre reads.Post) → Facts (series-of c)
 at-facts c = facts (series-of c) (c .before .before .before .pre .0)
 
+at-segments : (c : lts.After-struct-told2 called reads.Pre reads.Post) → Searched (c .before .before .before .args .coefs .now)
+at-segments c = searched (series-of c) (c .before .before .before .pre .0)
+
 at-first : (c : lts.After-struct-told2 called reads.Pre reads.Post) → toZ w64 (ofZ w64 (c .before .before .before .args .start .0)) ≡ c .before .before .before .args .start .0
 at-first c = back (c .before .before .before .args .start .0) (c .before .before .struct-told .given .0 .1)
 
@@ -47,14 +50,10 @@ last-second-requires : tie.Need-last-second-requires
 last-second-requires c κs = search needs
 
 segment-for-requires : tie.Need-segment-for-requires
-segment-for-requires c κs =
-    let f = at-facts c in
-    let few = few-segments (c .before .before .before .args .body) in
-    let most = f .not-too-many in
-    (f .ranged, ((f .some-segment, omega arith), within (search bounds) tt))
+segment-for-requires c κs = (at-segments c, within (search bounds) tt)
 
 place-for-requires : tie.Need-place-for-requires
-place-for-requires c κs = (at-facts (c .before) .ranged, (c .segment-for .ensures, within (search bounds) tt))
+place-for-requires c κs = (at-segments (c .before), (c .segment-for .ensures, within (search bounds) tt))
 
 half-length-requires : tie.Need-half-length-requires
 half-length-requires c κs = search needs
@@ -65,12 +64,11 @@ second-requires c κs =
     let told = there .before in
     let start = told .before .before .before in
     let f = at-facts told in
-    let few = few-segments (start .args .body) in
-    let most = f .not-too-many in
+    let few = at-segments told .few in
     let here = there .segment-for .ensures in
     let short = body-laws (start .args .body) .short in
     let half = c .before .half-length .ensures in
-    let small = c .before .before .place-for .ensures .0 in
+    let small = c .before .before .place-for .ensures .near in
     rw (at-first told, at-last told) (
       record { within = →abs {z = start .args .start .0} 10000000000 (f .not-too-early) (f .not-too-late) },
       (span-ordered (series-of told) (start .pre .0), (omega arith, (omega arith, within (search bounds) tt))),
@@ -83,7 +81,7 @@ returns c =
     let place = c .before .before .before .before .place-for in
     let b = rw (at-first told, at-last told) at (second .ensures) in
     rw (back (second .result) (second .ok), back (place .result .slope) (c .struct-told4 .given .1 .0 .1))
-    (record { from-start = b .not-before; to-last = b .not-after }, <-≤-trans (ltZ-yes tt) (place .ensures .1))
+    (record { from-start = b .not-before; to-last = b .not-after }, <-≤-trans (ltZ-yes tt) (place .ensures .steep))
 
 pub second-for-spec : {M : Type 1} → statement M
 second-for-spec =

@@ -1,14 +1,9 @@
 -- `marks::looks::segment_for` meets its contract: the invariant is that k is a segment. Assumes nothing.
 use Prim.Native.Nat.{_<_}
-use native.Mathlib.Omega.{arith}
 use borrow.Author.Needs.{needs}
 use Rattle.series.specs.Series.{segments}
 use Rattle.marks.proofs.looks.segment_for.Statement.{statement}
 use Rattle.marks.proofs.looks.segment_for.Tie as tie
-use Rattle.marks.proofs.looks.segment_for.Reads as reads
-use Rattle.marks.proofs.looks.segment_for.Lts as lts
-use Rattle.marks.proofs.looks.hinted.Reads as hinted-reads
-use Rattle.marks.proofs.looks.nearer.Reads as nearer-reads
 
 abbrev Inv-loop : tie.InvT-loop
 Inv-loop coefs target k₀ left₀ k left = k < segments coefs
