@@ -1,7 +1,7 @@
 -- What two seconds around a mark tell: both lie in the span, and so does what lies inside; the mark's value is small. Then what is looked through for its
 -- segment. Assumes nothing.
 use Prim.Native.Nat.{_≤_}
-use lib.IntN.{ℤ, pos, _*ℤ_}
+use lib.IntN.{ℤ, pos, natAbs, _*ℤ_}
 use Rattle.whole.specs.Parts.{ℤ-rules, parts-add}
 use Rattle.whole.specs.Laws.{<→≤, ≤-trans, abs→, →abs}
 use Rattle.whole.specs.Ranges.{Within}
@@ -15,7 +15,7 @@ use Rattle.series.specs.Series.{Series, InSpan, lastSecond}
 use Rattle.series.specs.Acceptance.{Accepted}
 use Rattle.series.specs.theory.Known.{facts}
 use Rattle.series.specs.theory.Span.{span-few, span-ordered, value-in-span}
-use Rattle.marks.specs.Stretch.{Around, Searched}
+use Rattle.marks.specs.Stretch.{BracketOf, Searched}
 use Rattle.marks.proofs.Halves.{Inside}
 
 module _ (s : Series) (e : Accepted s) where
@@ -32,7 +32,7 @@ module _ (s : Series) (e : Accepted s) where
       let p = parts-add (s .start) (pos (distanceFrom (s .start) (lastSecond s))) in
       record { within = →abs {z = second} 20000000000 (omega ℤ-rules) (omega ℤ-rules) }
 
-  module _ {j lo hi : ℤ} (a : Around s j lo hi) where
+  module _ {j lo hi below above : ℤ} (a : BracketOf s j lo hi below above) where
     pub lo-in-span : InSpan s lo
     lo-in-span = record { from-start = a .from-first; to-last = ≤-trans (<→≤ (a .ordered)) (a .by-last) }
 
@@ -44,9 +44,9 @@ module _ (s : Series) (e : Accepted s) where
 
     pub mark-small : Within 1000100000000000 (j *ℤ pos (numbers (s .body) .markSize))
     mark-small =
-        let below = abs→ 1000100000000000 (value-in-span s e lo-in-span .within) .0 in
-        let above = abs→ 1000100000000000 (value-in-span s e hi-in-span .within) .1 in
-        record { within = →abs {z = j *ℤ pos (numbers (s .body) .markSize)} 1000100000000000 (≤-trans below (<→≤ (a .under))) (≤-trans (a .reaching) above) }
+        let low : natAbs below ≤ 1000100000000000 = rw (a .at-lo) (value-in-span s e lo-in-span .within) in
+        let high : natAbs above ≤ 1000100000000000 = rw (a .at-hi) (value-in-span s e hi-in-span .within) in
+        record { within = →abs {z = j *ℤ pos (numbers (s .body) .markSize)} 1000100000000000 (≤-trans (abs→ 1000100000000000 low .0) (<→≤ (a .under))) (≤-trans (a .reaching) (abs→ 1000100000000000 high .1)) }
 
 few-segments : (body : Body) → numbers body .mostSegments ≤ 16000
 few-segments Sun = lit≤ tt

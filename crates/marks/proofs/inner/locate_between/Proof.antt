@@ -21,6 +21,7 @@ use Rattle.series.specs.theory.Span.{span-few, second-fits, value-in-span}
 use Rattle.marks.specs.Stretch.{BracketOf}
 use Rattle.marks.proofs.Halves.{Inside}
 use Rattle.marks.proofs.Bracket.{inside-at, upper, lower, upper-falls, lower-falls, found, part-of, values-near, seconds-few}
+use Rattle.marks.proofs.Around.{inside-in-span}
 use Rattle.marks.proofs.inner.locate_between.Statement.{statement}
 use Rattle.marks.proofs.inner.locate_between.Tie as tie
 use Rattle.marks.proofs.inner.locate_between.Reads as reads
@@ -112,10 +113,8 @@ at-inside c = rw (at-middle c) (at-step (c .before .before))
 at-value : (c : lts.After-value called reads.Pre reads.Post Inv-loop μ-loop) → c .value .result ≡ valueAt (series-of (c .before .before .before .before .before .before .before)) (c .before .add .result)
 at-value c = rw (back (c .before .add .result) (c .before .add .ok)) at (c .value .ensures)
 
-inside-in-span : (c : lts.At-loop called reads.Pre reads.Post Inv-loop μ-loop) {middle : ℤ} → Inside (toZ w64 (c .loop .from)) (toZ w64 (c .loop .to)) middle → InSpan (series-of c) middle
-inside-in-span c i =
-    let b = at-bracket c in
-    record { from-start = ≤-trans (b .from-first) (<→≤ (i .after-lo)); to-last = ≤-trans (<→≤ (i .before-hi)) (b .by-last) }
+at-span : (c : lts.At-loop called reads.Pre reads.Post Inv-loop μ-loop) {middle : ℤ} → Inside (toZ w64 (c .loop .from)) (toZ w64 (c .loop .to)) middle → InSpan (series-of c) middle
+at-span c i = inside-in-span (series-of c) (at-accepted c) (at-bracket c) i
 
 -- what one turn leaves, and that it is less
 at-next : (c : lts.Joined1 called reads.Pre reads.Post Inv-loop μ-loop) →
@@ -187,12 +186,12 @@ signed-requires c κs =
 add-requires : tie.Need-add-requires Inv-loop μ-loop
 add-requires c κs =
     let loop = c .before .before .before .before .before in
-    rw (back (c .signed .result) (c .signed .ok) ∙ c .signed .ensures) (second-fits (series-of loop) (at-accepted loop) (inside-in-span loop (at-step (c .before))))
+    rw (back (c .signed .result) (c .signed .ok) ∙ c .signed .ensures) (second-fits (series-of loop) (at-accepted loop) (at-span loop (at-step (c .before))))
 
 value-requires : tie.Need-value-requires Inv-loop μ-loop
 value-requires c κs =
     let loop = c .before .before .before .before .before .before in
-    rw (back (c .add .result) (c .add .ok)) (at-accepted loop, inside-in-span loop (at-inside c))
+    rw (back (c .add .result) (c .add .ok)) (at-accepted loop, at-span loop (at-inside c))
 
 distance-requires-4 : tie.Need-distance-requires-4 Inv-loop μ-loop
 distance-requires-4 c κs =
