@@ -1,12 +1,14 @@
 -- What the finder is handed: a stretch of a rising value, the indices at its two ends, and room for exactly its marks. What the locator is handed: two seconds
--- with their values, the first under a mark and the second at it or over. Assumes nothing: these are definitions.
+-- with their values, the first under a mark and the second at it or over; and the segments in which it looks for a mark's. Assumes nothing: these are definitions.
 use mathlib.Core.Path.{_≡_}
-use Prim.Native.Nat.{ℕ, _*_, _^_, _<_}
+use mathlib.Core.List.{List}
+use Prim.Native.Nat.{ℕ, _*_, _^_, _≤_, _<_}
 use lib.IntN.{ℤ, pos, _*ℤ_}
 use lib.Signed.{_≤ℤ_, _<ℤ_}
 use Rattle.whole.specs.Distance.{distanceFrom}
 use Rattle.series.specs.Bodies.{numbers}
-use Rattle.series.specs.Series.{Series, valueAt, lastSecond}
+use Rattle.series.specs.Series.{Series, valueAt, lastSecond, segments}
+use Rattle.series.specs.Facts.{Ranged}
 use Rattle.series.specs.Rising.{Rising}
 use Rattle.marks.specs.Marks.{indexAt}
 
@@ -36,3 +38,13 @@ module _ (s : Series) where
 
   abbrev pub BracketOf : (j lo hi below above : ℤ) → Type 0
   BracketOf = Bracket (valueAt s) (numbers (s .body) .markSize) (s .start) (lastSecond s)
+
+  -- the same, at the values themselves
+  abbrev pub Around : (j lo hi : ℤ) → Type 0
+  Around j lo hi = BracketOf j lo hi (valueAt s lo) (valueAt s hi)
+
+-- whole segments in range, some and not too many
+pub record Searched (coefs : List ℤ) : Type 0 where
+  pub ranged : Ranged coefs
+  pub some : 0 < segments coefs
+  pub few : segments coefs ≤ 16000

@@ -1,17 +1,21 @@
 // What other crates ask of an accepted series' marks.
-use crate::guess;
+use crate::looks;
+use crate::looks::Looked;
 use series::Body;
 use times::Second;
 ghost use mathlib.Core.Path.{_≡_};
 ghost use Prim.Native.Nat.{_<_};
-ghost use lib.IntN.{pos};
+ghost use lib.IntN.{pos, _*ℤ_};
 ghost use lib.Signed.{_≤ℤ_, _<ℤ_};
+ghost use mir.Syntax.{w64};
+ghost use mir.Val.{SFits};
 ghost use lib.ListN.{length, getD};
+ghost use Rattle.whole.specs.Ranges.{Within};
 ghost use Rattle.series.specs.Bodies.{numbers};
 ghost use Rattle.series.specs.Series.{series, InSpan};
 ghost use Rattle.series.specs.Acceptance.{Accepted};
 ghost use Rattle.marks.specs.Listed.{listedMarks, reachedAt, firstReached, lastReached, secondOfMark};
-ghost use Rattle.marks.specs.Stretch.{BracketOf};
+ghost use Rattle.marks.specs.Stretch.{BracketOf, Around};
 ghost use Rattle.marks.specs.Answers.{markOf, noMark};
 
 // How many units a mark is.
@@ -64,6 +68,14 @@ pub fn count(body: Body, start: Second, coefs: &[i64]) -> usize
     whole::inner::distance(lowest, highest)
 }
 
+// The value of a mark.
+pub fn mark_value(body: Body, index: i64) -> i64
+    requires { ⌜ SFits w64 (index *ℤ pos (numbers body .markSize)) ⌝ }
+    ensures { λ r. ⌜ r ≡ index *ℤ pos (numbers body .markSize) ⌝ }
+{
+    whole::inner::multiply(index, mark_size(body))
+}
+
 // The second of a listed mark, by its index, between two seconds of which the first is under it and the second has reached it, given the values there. It looks by
 // proportion, and halves after each guess that left more than half.
 pub fn locate_between(
@@ -80,7 +92,7 @@ pub fn locate_between(
     requires { ⌜ BracketOf (series body (start .0) (now coefs)) index (lo .0) (hi .0) below above ⌝ }
     ensures { λ r. ⌜ r .0 ≡ secondOfMark (series body (start .0) (now (coefs .entry))) index ⌝ }
 {
-    let target = whole::inner::multiply(index, mark_size(body));
+    let target = mark_value(body, index);
     let mut from = lo.0;
     let mut to = hi.0;
     let mut under = below;
@@ -88,7 +100,7 @@ pub fn locate_between(
     let mut left = whole::inner::distance(from, to);
     let mut halve = false;
     while left > 1 {
-        let step = guess::look(
+        let step = guess::inner::seconds_on(
             halve,
             whole::inner::distance(under, target),
             whole::inner::distance(under, over),
@@ -104,29 +116,88 @@ pub fn locate_between(
             over = value;
         }
         let rest = whole::inner::distance(from, to);
-        halve = guess::halve_next(halve, left, rest);
+        halve = guess::inner::halve_next(halve, left, rest);
         left = rest;
     }
     Second(to)
 }
 
-// The second of a listed mark, by its index.
+// The same, given no values. Two neighbouring seconds need none.
+fn settle(body: Body, start: Second, coefs: &[i64], index: i64, around: Looked) -> Second
+    requires { ⌜ Accepted (series body (start .0) (now coefs)) ⌝ }
+    requires { ⌜ Around (series body (start .0) (now coefs)) index (around .lo) (around .hi) ⌝ }
+    ensures { λ r. ⌜ r .0 ≡ secondOfMark (series body (start .0) (now (coefs .entry))) index ⌝ }
+{
+    let lo = around.lo;
+    let hi = around.hi;
+    if whole::inner::distance(lo, hi) == 1 {
+        return Second(hi);
+    }
+    let below = series::inner::value(body, start, coefs, Second(lo));
+    let above = series::inner::value(body, start, coefs, Second(hi));
+    locate_between(
+        body,
+        start,
+        coefs,
+        index,
+        Second(lo),
+        Second(hi),
+        below,
+        above,
+    )
+}
+
+// The same, by a look at the second that is thought to be the mark's and at the one before it.
+fn confirm(
+    body: Body,
+    start: Second,
+    coefs: &[i64],
+    index: i64,
+    around: Looked,
+    mark: i64,
+) -> Second
+    requires { ⌜ Accepted (series body (start .0) (now coefs)) ⌝ }
+    requires { ⌜ Around (series body (start .0) (now coefs)) index (around .lo) (around .hi) ⌝ }
+    requires { ⌜ Within 2000000000000000000 mark ⌝ }
+    ensures { λ r. ⌜ r .0 ≡ secondOfMark (series body (start .0) (now (coefs .entry))) index ⌝ }
+{
+    let before = looks::look(body, start, coefs, index, around, mark - 1);
+    let both = looks::look(body, start, coefs, index, before, mark);
+    settle(body, start, coefs, index, both)
+}
+
+// The second of a listed mark, by its index: a look where the coefficients say, and then at two seconds side by side.
 pub fn locate(body: Body, start: Second, coefs: &[i64], index: i64) -> Second
     requires { ⌜ Accepted (series body (start .0) (now coefs)) ⌝ }
     requires { ⌜ firstReached (series body (start .0) (now coefs)) <ℤ index ⌝ }
     requires { ⌜ index ≤ℤ lastReached (series body (start .0) (now coefs)) ⌝ }
     ensures { λ r. ⌜ r .0 ≡ secondOfMark (series body (start .0) (now (coefs .entry))) index ⌝ }
 {
-    let last = series::inner::last_second(body, start, coefs);
-    let below = series::inner::value(body, start, coefs, start);
-    let above = series::inner::value(body, start, coefs, last);
-    locate_between(body, start, coefs, index, start, last, below, above)
+    let target = mark_value(body, index);
+    let near = looks::second_for(body, start, coefs, target);
+    let span = looks::span(body, start, coefs);
+    let there = looks::look(body, start, coefs, index, span, near.at);
+    let mark = looks::thought(body, near, there);
+    confirm(body, start, coefs, index, there, mark)
 }
 
 // A listed mark: its index and its second.
 pub struct ListedMark {
     pub index: i64,
     pub second: Second,
+}
+
+// The k-th listed mark, counted from 0, given how many marks are reached at the first second: it is the same for all of them.
+pub fn nth_after(body: Body, start: Second, coefs: &[i64], lowest: i64, k: usize) -> ListedMark
+    requires { ⌜ Accepted (series body (start .0) (now coefs)) ⌝ }
+    requires { ⌜ lowest ≡ firstReached (series body (start .0) (now coefs)) ⌝ }
+    requires { ⌜ k < length (listedMarks (series body (start .0) (now coefs))) ⌝ }
+    ensures { λ r. ⌜ markOf r ≡ getD (listedMarks (series body (start .0) (now (coefs .entry)))) k noMark ⌝ }
+{
+    let next = whole::inner::add(lowest, 1);
+    let index = whole::inner::add(next, whole::inner::signed(k));
+    let second = locate(body, start, coefs, index);
+    ListedMark { index, second }
 }
 
 // The k-th listed mark, counted from 0.
@@ -136,8 +207,5 @@ pub fn nth_mark(body: Body, start: Second, coefs: &[i64], k: usize) -> ListedMar
     ensures { λ r. ⌜ markOf r ≡ getD (listedMarks (series body (start .0) (now (coefs .entry)))) k noMark ⌝ }
 {
     let lowest = first_reached(body, start, coefs);
-    let next = whole::inner::add(lowest, 1);
-    let index = whole::inner::add(next, whole::inner::signed(k));
-    let second = locate(body, start, coefs, index);
-    ListedMark { index, second }
+    nth_after(body, start, coefs, lowest, k)
 }

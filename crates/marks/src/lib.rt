@@ -12,8 +12,8 @@ ghost use Rattle.marks.specs.Stretch.{StretchOf};
 ghost use Rattle.marks.specs.Listed.{marksBetween, listedMarks};
 ghost use Rattle.marks.specs.Answers.{paperCount, paperList, countedMarks, listedInto, writtenInto};
 
-mod guess;
 pub mod inner;
+mod looks;
 
 // Fills `out` with the marks of the stretch from lo to hi, given the indices at its ends: none where they are one, the mark of two neighbouring seconds, else those of
 // its two halves in turn.

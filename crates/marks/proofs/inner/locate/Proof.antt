@@ -1,49 +1,74 @@
--- `marks::inner::locate` meets its contract: the whole span is a bracket of a listed mark. Assumes nothing.
-use mathlib.Core.Path.{_≡_, _∙_}
+-- `marks::inner::locate` meets its contract. Assumes nothing.
+use mathlib.Core.Path.{refl}
 use borrow.Author.Needs.{needs}
 use mir.Facts.{toZ-ofZ}
-use Rattle.whole.specs.Ranges.{back}
-use Rattle.series.specs.Series.{series, valueAt, lastSecond}
+use Rattle.whole.specs.Ranges.{within, back, fit-hyp, bounds}
+use Rattle.series.specs.Series.{Series, series, lastSecond}
 use Rattle.series.specs.Theorems.{accepted-rises}
-use Rattle.series.specs.theory.Span.{span-ordered, start-in-span, last-in-span}
+use Rattle.series.specs.theory.Span.{span-ordered}
+use Rattle.marks.specs.Stretch.{Around}
 use Rattle.marks.proofs.Bracket.{whole-span}
+use Rattle.marks.proofs.Around.{second-small, mark-small}
 use Rattle.marks.proofs.inner.locate.Statement.{statement}
 use Rattle.marks.proofs.inner.locate.Tie as tie
+use Rattle.marks.proofs.inner.locate.Reads as reads
+use Rattle.marks.proofs.inner.locate.Lts as lts
+use Rattle.marks.proofs.inner.mark_value.Reads as mark-value-reads
+use Rattle.marks.proofs.looks.second_for.Reads as second-for-reads
+use Rattle.marks.proofs.looks.span.Reads as span-reads
+use Rattle.marks.proofs.looks.look.Reads as look-reads
+use Rattle.marks.proofs.looks.thought.Reads as thought-reads
+use Rattle.marks.proofs.inner.confirm.Reads as confirm-reads
 
-last-second-requires : tie.Need-last-second-requires
-last-second-requires c κs = search needs
+abbrev called : lts.Claims
+called = (mark-value-reads.Asked, mark-value-reads.Learnt, second-for-reads.Asked, second-for-reads.Learnt, span-reads.Asked, span-reads.Learnt, look-reads.Asked, look-reads.Learnt, thought-reads.Asked, thought-reads.Learnt, confirm-reads.Asked, confirm-reads.Learnt)
 
-value-requires : tie.Need-value-requires
-value-requires c κs =
+abbrev series-of : lts.Start called reads.Pre reads.Post → Series
+series-of c = series (c .args .body) (c .args .start .0) (c .args .coefs .now)
+
+-- the whole span is around a listed mark
+at-span : (c : lts.Start called reads.Pre reads.Post) → Around (series-of c) (c .args .index) (c .args .start .0) (lastSecond (series-of c))
+at-span c = whole-span (accepted-rises (series-of c) (c .pre .0)) (span-ordered (series-of c) (c .pre .0)) (c .pre .1 .0) (c .pre .1 .1) refl refl
+
+mark-value-requires : tie.Need-mark-value-requires
+mark-value-requires c κs = rw (toZ-ofZ (c .fits .index)) (fit-hyp (mark-small (series-of c) (c .pre .0) (at-span c)) tt)
+
+second-for-requires : tie.Need-second-for-requires
+second-for-requires c κs =
     let start = c .before in
-    (start .pre .0, start-in-span (series (start .args .body) (start .args .start .0) (start .args .coefs .now)) (start .pre .0))
+    let small = mark-small (series-of start) (start .pre .0) (at-span start) in
+    (start .pre .0, rw (back (c .mark-value .result) (c .mark-value .ok)) (rw (c .mark-value .ensures, toZ-ofZ (start .fits .index)) (within (search bounds) tt)))
 
-value-requires-2 : tie.Need-value-requires-2
-value-requires-2 c κs =
-    let there = c .before in
-    let start = there .before in
-    rw (there .last-second .ensures) (start .pre .0, last-in-span (series (start .args .body) (start .args .start .0) (start .args .coefs .now)) (start .pre .0))
+span-requires : tie.Need-span-requires
+span-requires c κs = search needs
 
-locate-between-requires : tie.Need-locate-between-requires
-locate-between-requires c κs =
-    let there = c .before .before in
-    let start = there .before in
-    let s = series (start .args .body) (start .args .start .0) (start .args .coefs .now) in
-    let above = rw (there .last-second .ensures) at (c .value2 .ensures) in
-    rw (toZ-ofZ (start .fits .index), there .last-second .ensures, back (c .before .value .result) (c .before .value .ok), back (c .value2 .result) (c .value2 .ok))
-    (start .pre .0, whole-span (accepted-rises s (start .pre .0)) (span-ordered s (start .pre .0)) (start .pre .1 .0) (start .pre .1 .1) (c .before .value .ensures) above)
+look-requires : tie.Need-look-requires
+look-requires c κs =
+    let start = c .before .before .before .before in
+    rw (toZ-ofZ (start .fits .index), c .before .span .ensures .0, c .before .span .ensures .1) (start .pre .0, at-span start)
+
+thought-requires : tie.Need-thought-requires
+thought-requires c κs =
+    let near = c .before .before .before in
+    let start = near .before .before in
+    (second-small (series-of start) (start .pre .0) (near .second-for .ensures .0), near .second-for .ensures .1)
+
+confirm-requires : tie.Need-confirm-requires
+confirm-requires c κs = search needs
 
 returns : tie.Need-returns
 returns c =
-    let start = c .before .before .before .before in
-    rw (toZ-ofZ (start .fits .index)) at (c .locate-between .ensures)
+    let start = c .before .before .before .before .before .before .before in
+    rw (toZ-ofZ (start .fits .index)) at (c .confirm .ensures)
 
 pub locate-spec : {M : Type 1} → statement M
 locate-spec =
     tie.close
     (tie.spec
-    last-second-requires
-    value-requires
-    value-requires-2
-    locate-between-requires
+    mark-value-requires
+    second-for-requires
+    span-requires
+    look-requires
+    thought-requires
+    confirm-requires
     returns)

@@ -21,17 +21,17 @@ use Rattle.series.specs.theory.Span.{span-few, second-fits, value-in-span}
 use Rattle.marks.specs.Stretch.{BracketOf}
 use Rattle.marks.proofs.Halves.{Inside}
 use Rattle.marks.proofs.Bracket.{inside-at, upper, lower, upper-falls, lower-falls, found, part-of, values-near, seconds-few}
+use Rattle.marks.proofs.Around.{inside-in-span}
 use Rattle.marks.proofs.inner.locate_between.Statement.{statement}
 use Rattle.marks.proofs.inner.locate_between.Tie as tie
 use Rattle.marks.proofs.inner.locate_between.Reads as reads
 use Rattle.marks.proofs.inner.locate_between.Lts as lts
-use Rattle.marks.proofs.guess.halve_next.Reads as halve-next-reads
-use Rattle.marks.proofs.guess.look.Reads as look-reads
-use Rattle.marks.proofs.inner.mark_size.Reads as mark-size-reads
+use Rattle.guess.proofs.inner.halve_next.Reads as halve-next-reads
+use Rattle.guess.proofs.inner.seconds_on.Reads as seconds-on-reads
+use Rattle.marks.proofs.inner.mark_value.Reads as mark-value-reads
 use Rattle.series.proofs.inner.value.Reads as value-reads
 use Rattle.whole.proofs.inner.add.Reads as add-reads
 use Rattle.whole.proofs.inner.distance.Reads as distance-reads
-use Rattle.whole.proofs.inner.multiply.Reads as multiply-reads
 use Rattle.whole.proofs.inner.signed.Reads as signed-reads
 
 abbrev Inv-loop : tie.InvT-loop
@@ -43,14 +43,12 @@ abbrev μ-loop : tie.MeasureT-loop
 
 abbrev called : lts.Claims
 called = (
-  mark-size-reads.Asked,
-  mark-size-reads.Learnt,
-  multiply-reads.Asked,
-  multiply-reads.Learnt,
+  mark-value-reads.Asked,
+  mark-value-reads.Learnt,
   distance-reads.Asked,
   distance-reads.Learnt,
-  look-reads.Asked,
-  look-reads.Learnt,
+  seconds-on-reads.Asked,
+  seconds-on-reads.Learnt,
   signed-reads.Asked,
   signed-reads.Learnt,
   add-reads.Asked,
@@ -63,35 +61,32 @@ called = (
 
 -- ---- what is known before the loop
 
-at-target : (c : lts.After-multiply called reads.Pre reads.Post Inv-loop μ-loop) → (let start = c .before .before in toZ w64 (ofZ w64 (c .multiply .result)) ≡ start .args .index *ℤ pos (numbers (start .args .body) .markSize))
-at-target c =
-    let start = c .before .before in
-    back (c .multiply .result) (c .multiply .ok)
-    ∙ (rw (toZ-ofZ (start .fits .index), back (c .before .mark-size .result) (c .before .mark-size .ok), c .before .mark-size .ensures) at (c .multiply .ensures))
+at-target : (c : lts.After-mark-value called reads.Pre reads.Post Inv-loop μ-loop) → (let start = c .before in toZ w64 (ofZ w64 (c .mark-value .result)) ≡ start .args .index *ℤ pos (numbers (start .args .body) .markSize))
+at-target c = back (c .mark-value .result) (c .mark-value .ok) ∙ (rw (toZ-ofZ (c .before .fits .index)) at (c .mark-value .ensures))
 
-fits-lo : (c : lts.After-struct-told2 called reads.Pre reads.Post Inv-loop μ-loop) → SFits w64 (c .before .before .before .before .args .lo .0)
-fits-lo c = fits-of (c .before .before .before .before .args .lo .0) (c .before .struct-told .given .0 .1)
+fits-lo : (c : lts.After-struct-told2 called reads.Pre reads.Post Inv-loop μ-loop) → SFits w64 (c .before .before .before .args .lo .0)
+fits-lo c = fits-of (c .before .before .before .args .lo .0) (c .before .struct-told .given .0 .1)
 
-fits-hi : (c : lts.After-struct-told2 called reads.Pre reads.Post Inv-loop μ-loop) → SFits w64 (c .before .before .before .before .args .hi .0)
-fits-hi c = fits-of (c .before .before .before .before .args .hi .0) (c .struct-told2 .given .0 .1)
+fits-hi : (c : lts.After-struct-told2 called reads.Pre reads.Post Inv-loop μ-loop) → SFits w64 (c .before .before .before .args .hi .0)
+fits-hi c = fits-of (c .before .before .before .args .hi .0) (c .struct-told2 .given .0 .1)
 
 -- ---- what is known in the loop
 
 abbrev series-of : lts.At-loop called reads.Pre reads.Post Inv-loop μ-loop → Series
-series-of c = let start = c .before .before .before .before .before .before in series (start .args .body) (start .args .start .0) (start .args .coefs .now)
+series-of c = let start = c .before .before .before .before .before in series (start .args .body) (start .args .start .0) (start .args .coefs .now)
 
 abbrev index-of : lts.At-loop called reads.Pre reads.Post Inv-loop μ-loop → ℤ
-index-of c = c .before .before .before .before .before .before .args .index
+index-of c = c .before .before .before .before .before .args .index
 
 at-accepted : (c : lts.At-loop called reads.Pre reads.Post Inv-loop μ-loop) → Accepted (series-of c)
-at-accepted c = c .before .before .before .before .before .before .pre .0
+at-accepted c = c .before .before .before .before .before .pre .0
 
-at-mark : (c : lts.At-loop called reads.Pre reads.Post Inv-loop μ-loop) → toZ w64 (ofZ w64 (c .before .before .before .before .multiply .result)) ≡ index-of c *ℤ pos (numbers (series-of c .body) .markSize)
+at-mark : (c : lts.At-loop called reads.Pre reads.Post Inv-loop μ-loop) → toZ w64 (ofZ w64 (c .before .before .before .before .mark-value .result)) ≡ index-of c *ℤ pos (numbers (series-of c .body) .markSize)
 at-mark c = at-target (c .before .before .before .before)
 
 at-bracket : (c : lts.At-loop called reads.Pre reads.Post Inv-loop μ-loop) → BracketOf (series-of c) (index-of c) (toZ w64 (c .loop .from)) (toZ w64 (c .loop .to)) (toZ w64 (c .loop .under)) (toZ w64 (c .loop .over))
 at-bracket c =
-    let start = c .before .before .before .before .before .before in
+    let start = c .before .before .before .before .before in
     rw (toZ-ofZ (start .fits .index)) at (c .loop .inv .0)
 
 -- the values at the two ends are near enough
@@ -104,12 +99,12 @@ at-few c =
     let few = span-few (series-of c) (at-accepted c) in
     rw (c .loop .inv .1) (seconds-few (at-bracket c) (omega arith))
 
-at-step : (c : lts.After-look called reads.Pre reads.Post Inv-loop μ-loop) → (let loop = c .before .before .before .before in Inside (toZ w64 (loop .loop .from)) (toZ w64 (loop .loop .to)) (toZ w64 (loop .loop .from) +ℤ pos (c .look .result)))
+at-step : (c : lts.After-seconds-on called reads.Pre reads.Post Inv-loop μ-loop) → (let loop = c .before .before .before .before in Inside (toZ w64 (loop .loop .from)) (toZ w64 (loop .loop .to)) (toZ w64 (loop .loop .from) +ℤ pos (c .seconds-on .result)))
 at-step c =
     let loop = c .before .before .before .before in
-    inside-at (at-bracket loop) (c .look .result) refl (c .look .ensures .0) (rw (loop .loop .inv .1) at (c .look .ensures .1))
+    inside-at (at-bracket loop) (c .seconds-on .result) refl (c .seconds-on .ensures .0) (rw (loop .loop .inv .1) at (c .seconds-on .ensures .1))
 
-at-middle : (c : lts.After-add called reads.Pre reads.Post Inv-loop μ-loop) → c .add .result ≡ toZ w64 (c .before .before .before .before .before .before .loop .from) +ℤ pos (c .before .before .look .result)
+at-middle : (c : lts.After-add called reads.Pre reads.Post Inv-loop μ-loop) → c .add .result ≡ toZ w64 (c .before .before .before .before .before .before .loop .from) +ℤ pos (c .before .before .seconds-on .result)
 at-middle c = rw (back (c .before .signed .result) (c .before .signed .ok), c .before .signed .ensures) at (c .add .ensures)
 
 at-inside : (c : lts.After-add called reads.Pre reads.Post Inv-loop μ-loop) → (let loop = c .before .before .before .before .before .before in Inside (toZ w64 (loop .loop .from)) (toZ w64 (loop .loop .to)) (c .add .result))
@@ -118,10 +113,8 @@ at-inside c = rw (at-middle c) (at-step (c .before .before))
 at-value : (c : lts.After-value called reads.Pre reads.Post Inv-loop μ-loop) → c .value .result ≡ valueAt (series-of (c .before .before .before .before .before .before .before)) (c .before .add .result)
 at-value c = rw (back (c .before .add .result) (c .before .add .ok)) at (c .value .ensures)
 
-inside-in-span : (c : lts.At-loop called reads.Pre reads.Post Inv-loop μ-loop) {middle : ℤ} → Inside (toZ w64 (c .loop .from)) (toZ w64 (c .loop .to)) middle → InSpan (series-of c) middle
-inside-in-span c i =
-    let b = at-bracket c in
-    record { from-start = ≤-trans (b .from-first) (<→≤ (i .after-lo)); to-last = ≤-trans (<→≤ (i .before-hi)) (b .by-last) }
+at-span : (c : lts.At-loop called reads.Pre reads.Post Inv-loop μ-loop) {middle : ℤ} → Inside (toZ w64 (c .loop .from)) (toZ w64 (c .loop .to)) middle → InSpan (series-of c) middle
+at-span c i = inside-in-span (series-of c) (at-accepted c) (at-bracket c) i
 
 -- what one turn leaves, and that it is less
 at-next : (c : lts.Joined1 called reads.Pre reads.Post Inv-loop μ-loop) →
@@ -146,18 +139,12 @@ at-next c =
 
 -- ---- the needs
 
-mark-size-requires : tie.Need-mark-size-requires Inv-loop μ-loop
-mark-size-requires c κs = search needs
-
-multiply-requires : tie.Need-multiply-requires Inv-loop μ-loop
-multiply-requires c κs =
-    let start = c .before in
-    rw (toZ-ofZ (start .fits .index), back (c .mark-size .result) (c .mark-size .ok), c .mark-size .ensures)
-    (between-fits (start .fits .below) (start .fits .above) (<→≤ (start .pre .1 .under)) (start .pre .1 .reaching))
+mark-value-requires : tie.Need-mark-value-requires Inv-loop μ-loop
+mark-value-requires c κs = rw (toZ-ofZ (c .fits .index)) (between-fits (c .fits .below) (c .fits .above) (<→≤ (c .pre .1 .under)) (c .pre .1 .reaching))
 
 distance-requires : tie.Need-distance-requires Inv-loop μ-loop
 distance-requires c κs =
-    let start = c .before .before .before .before in
+    let start = c .before .before .before in
     let s = series (start .args .body) (start .args .start .0) (start .args .coefs .now) in
     let few = span-few s (start .pre .0) in
     let near = seconds-few (start .pre .1) (omega arith) in
@@ -166,7 +153,7 @@ distance-requires c κs =
 loop-holds : tie.Need-loop-holds Inv-loop μ-loop
 loop-holds c =
     let told = c .before in
-    let start = told .before .before .before .before in
+    let start = told .before .before .before in
     rw (toZ-ofZ (start .fits .index), toZ-ofZ (fits-lo told), toZ-ofZ (fits-hi told), toZ-ofZ (start .fits .below), toZ-ofZ (start .fits .above))
     (start .pre .1, rw (toZ-ofZ (fits-lo told), toZ-ofZ (fits-hi told)) at (c .distance .ensures))
 
@@ -182,8 +169,8 @@ distance-requires-3 c κs =
     let b = at-bracket (c .before .before) in
     (≤-trans (<→≤ (b .under)) (b .reaching), at-near (c .before .before))
 
-look-requires : tie.Need-look-requires Inv-loop μ-loop
-look-requires c κs =
+seconds-on-requires : tie.Need-seconds-on-requires Inv-loop μ-loop
+seconds-on-requires c κs =
     let loop = c .before .before .before in
     let to-target = rw (at-mark loop) at (c .before .distance2 .ensures) in
     let to-above = c .distance3 .ensures in
@@ -193,18 +180,18 @@ look-requires c κs =
 signed-requires : tie.Need-signed-requires Inv-loop μ-loop
 signed-requires c κs =
     let few = at-few (c .before .before .before .before) in
-    let less = c .look .ensures .1 in
+    let less = c .seconds-on .ensures .1 in
     omega arith
 
 add-requires : tie.Need-add-requires Inv-loop μ-loop
 add-requires c κs =
     let loop = c .before .before .before .before .before in
-    rw (back (c .signed .result) (c .signed .ok) ∙ c .signed .ensures) (second-fits (series-of loop) (at-accepted loop) (inside-in-span loop (at-step (c .before))))
+    rw (back (c .signed .result) (c .signed .ok) ∙ c .signed .ensures) (second-fits (series-of loop) (at-accepted loop) (at-span loop (at-step (c .before))))
 
 value-requires : tie.Need-value-requires Inv-loop μ-loop
 value-requires c κs =
     let loop = c .before .before .before .before .before .before in
-    rw (back (c .add .result) (c .add .ok)) (at-accepted loop, inside-in-span loop (at-inside c))
+    rw (back (c .add .result) (c .add .ok)) (at-accepted loop, at-span loop (at-inside c))
 
 distance-requires-4 : tie.Need-distance-requires-4 Inv-loop μ-loop
 distance-requires-4 c κs =
@@ -229,7 +216,7 @@ loop-again : tie.Need-loop-again Inv-loop μ-loop
 loop-again c =
     let joined = c .before .before in
     let loop = joined .before .before .before .before .before .before .before .before in
-    let start = loop .before .before .before .before .before .before in
+    let start = loop .before .before .before .before .before in
     rw (toZ-ofZ (start .fits .index)) (at-next joined .0, c .before .distance4 .ensures)
 
 returns : tie.Need-returns Inv-loop μ-loop
@@ -243,13 +230,12 @@ locate-between-spec =
     (tie.spec
     Inv-loop
     μ-loop
-    mark-size-requires
-    multiply-requires
+    mark-value-requires
     distance-requires
     loop-holds
     distance-requires-2
     distance-requires-3
-    look-requires
+    seconds-on-requires
     signed-requires
     add-requires
     value-requires

@@ -1,13 +1,13 @@
--- `marks::guess::proportional` meets its contract. Assumes nothing.
+-- `guess::inner::proportional` meets its contract. Assumes nothing.
 use Prim.Native.Nat.{ℕ, _+_, _*_, _/_, _≤_, _<_}
 use native.Mathlib.Omega.{arith}
 use native.Mathlib.Nat.{mul-le-mul, div-lt-iff-lt-mul}
 use mathlib.Core.Logic.{⊎-elim}
 use borrow.Author.Needs.{needs}
-use Rattle.marks.proofs.guess.proportional.Statement.{statement}
-use Rattle.marks.proofs.guess.proportional.Tie as tie
-use Rattle.marks.proofs.guess.proportional.Reads as reads
-use Rattle.marks.proofs.guess.proportional.Lts as lts
+use Rattle.guess.proofs.inner.proportional.Statement.{statement}
+use Rattle.guess.proofs.inner.proportional.Tie as tie
+use Rattle.guess.proofs.inner.proportional.Reads as reads
+use Rattle.guess.proofs.inner.proportional.Lts as lts
 
 -- in units of b / 2 ^ 31, what is at most b has less than 32 bits
 few-units : (a b : ℕ) → a ≤ b → a / (b / 2147483648 + 1) < 2147483648

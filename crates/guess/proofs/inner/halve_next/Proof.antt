@@ -1,7 +1,7 @@
--- `marks::guess::halve_next` meets its contract. Assumes nothing.
+-- `guess::inner::halve_next` meets its contract. Assumes nothing.
 use borrow.Author.Needs.{needs}
-use Rattle.marks.proofs.guess.halve_next.Statement.{statement}
-use Rattle.marks.proofs.guess.halve_next.Tie as tie
+use Rattle.guess.proofs.inner.halve_next.Statement.{statement}
+use Rattle.guess.proofs.inner.halve_next.Tie as tie
 
 returns : tie.Need-returns
 returns c = search needs
