@@ -2,7 +2,7 @@
 -- for an instant before the first entry (document 01, "Refusal numbers"). Assumes nothing: these are definitions.
 use mathlib.Core.Bool.{not}
 use mathlib.Core.List.{List}
-use lib.IntN.{ℤ, pos}
+use lib.IntN.{ℤ}
 use Rattle.refusals.specs.Verdict.{Verdict, answered, refusal, refuseWhen, _before_}
 use Rattle.times.specs.declared.Day.{Day}
 use Rattle.times.specs.declared.Second.{Second}
@@ -12,28 +12,24 @@ use Rattle.clock.specs.declared.MilliAnswer.{MilliAnswer}
 use Rattle.clock.specs.declared.ShownAnswer.{ShownAnswer}
 use Rattle.clock.specs.declared.MilliAnswer.the-variants as milli
 use Rattle.clock.specs.declared.ShownAnswer.the-variants as shown
-use Rattle.clock.specs.Leap.{lawful}
-use Rattle.clock.specs.Clock.{convertible, milliIn, dayIn, shownIn}
-
--- the zone of UTC+8, in minutes
-abbrev pub utc8 : ℤ
-utc8 = pos 480
+use Rattle.clock.specs.Leap.{leapLawful}
+use Rattle.clock.specs.Clock.{utc8, convertible, early, milliIn, dayIn, shownIn}
 
 unfoldable pub leapJudged : List ℤ → Verdict (Unit {0})
-leapJudged leap = refuseWhen (not (lawful leap)) 1
+leapJudged leap = refuseWhen (not (leapLawful leap)) 1
 
--- what must hold before a second is converted
-unfoldable pub judged : List ℤ → Second → Verdict (Unit {0})
-judged leap s = leapJudged leap before refuseWhen (not (convertible s)) 6
+-- what is judged before a second is converted
+unfoldable pub clockJudged : List ℤ → Second → Verdict (Unit {0})
+clockJudged leap s = leapJudged leap before refuseWhen (not (convertible s)) 6 before refuseWhen (early leap s) 7
 
 unfoldable pub milliOf : List ℤ → Second → Verdict Milli
-milliOf leap s = judged leap s before milliIn leap s utc8
+milliOf leap s = clockJudged leap s before answered (milliIn leap s utc8)
 
 unfoldable pub dayOfSecond : List ℤ → Second → Verdict Day
-dayOfSecond leap s = judged leap s before dayIn leap s utc8
+dayOfSecond leap s = clockJudged leap s before answered (dayIn leap s utc8)
 
 unfoldable pub shownOf : List ℤ → Second → Verdict ShownTime
-shownOf leap s = judged leap s before shownIn leap s utc8
+shownOf leap s = clockJudged leap s before answered (shownIn leap s utc8)
 
 -- what the answers say on paper
 abbrev pub paperMilli : MilliAnswer → Verdict Milli

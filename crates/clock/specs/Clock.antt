@@ -1,36 +1,55 @@
--- From a TDB second to local milliseconds, days and shown times (document 01, "Three counts of time"). The zone is in minutes; UTC+8 is 480.
--- Assumes nothing: these are definitions.
+-- From a TDB second to local milliseconds, days and shown times (document 01, "Three counts of time"), for any table, second and zone: what is refused
+-- is judged before (`Answers`). The zone is in minutes; UTC+8 is 480. Assumes nothing: these are definitions.
 use Prim.Native.Nat.{_/_, _%_}
-use mathlib.Core.Bool.{Bool}
+use mathlib.Core.Path.{_≡_}
+use mathlib.Core.Bool.{Bool, true, false, not}
 use mathlib.Core.List.{List}
 use lib.IntN.{ℤ, pos, negsuc, _+ℤ_, _-ℤ_, _*ℤ_}
-use Rattle.refusals.specs.Verdict.{Verdict, answered, _then_}
 use Rattle.whole.specs.Floor.{floorDiv, floorMod}
+use Rattle.whole.specs.Ranges.{Within}
+use Rattle.whole.specs.Tests.{inRange}
 use Rattle.times.specs.declared.Day.{Day}
-use Rattle.dates.specs.Calendar.{dateFor}
 use Rattle.times.specs.declared.Second.{Second}
 use Rattle.times.specs.declared.Milli.{Milli}
+use Rattle.dates.specs.Calendar.{dateFor}
+use Rattle.clock.specs.declared.Reading.{Reading}
 use Rattle.clock.specs.declared.ShownTime.{ShownTime}
-use Rattle.clock.specs.Leap.{between, offset, entryUsed}
+use Rattle.clock.specs.Leap.{leapLawful, offset, holds, entryUsed}
+
+-- the zone of UTC+8, in minutes
+abbrev pub utc8 : ℤ
+utc8 = pos 480
 
 -- conversion takes TDB seconds -10,000,000,000 to 16,000,000,000
 unfoldable pub convertible : Second → Bool
-convertible s = between (negsuc 9999999999) (pos 16000000000) (s .0)
+convertible s = inRange (negsuc 9999999999) (pos 16000000000) (s .0)
 
 -- the TAI millisecond of a TDB second; TT = TAI + 32.184 s
 unfoldable pub tai : Second → ℤ
 tai s = pos 1000 *ℤ s .0 -ℤ pos 32184
 
--- the local millisecond of a TAI millisecond under an offset
-unfoldable pub localMilli : ℤ → ℤ → ℤ → ℤ
-localMilli t o zone = t -ℤ pos 1000 *ℤ o +ℤ pos 60000 *ℤ zone
+-- an instant before the first leap entry
+unfoldable pub early : List ℤ → Second → Bool
+early leap s = not (holds leap (tai s) 0)
 
-unfoldable pub milliIn : List ℤ → Second → ℤ → Verdict Milli
-milliIn leap s zone = entryUsed leap (tai s) then (λ i. answered (record { 0 = localMilli (tai s) (offset leap i) zone }))
+-- ---- one reading of the clock: the count in the zone, and whether the second is an inserted one, which is never said: it is shown as the second after it
+-- the local millisecond of a TAI millisecond under an offset
+unfoldable pub localMilli : ℤ → ℤ → ℤ → Milli
+localMilli t o zone = record { 0 = t -ℤ pos 1000 *ℤ o +ℤ pos 60000 *ℤ zone }
+
+unfoldable pub reading : List ℤ → Second → ℤ → Reading
+reading leap s zone = record { milli = localMilli (tai s) (offset leap (entryUsed leap (tai s))) zone; inserted = false }
+
+-- ---- what is read off it
+unfoldable pub milliIn : List ℤ → Second → ℤ → Milli
+milliIn leap s zone = reading leap s zone .milli
 
 -- the day of a millisecond, rounded down
 unfoldable pub dayOfMilli : Milli → Day
 dayOfMilli m = record { 0 = floorDiv (m .0) 86400000 }
+
+unfoldable pub dayIn : List ℤ → Second → ℤ → Day
+dayIn leap s zone = dayOfMilli (milliIn leap s zone)
 
 -- date, hour, minute, second and millisecond
 unfoldable pub shownOfMilli : Milli → ShownTime
@@ -38,14 +57,18 @@ shownOfMilli m =
     let rest = floorMod (m .0) 86400000 in
     record {
       date = dateFor (dayOfMilli m .0);
-      hour = pos (rest / 3600000);
-      minute = pos (rest / 60000 % 60);
-      second = pos (rest / 1000 % 60);
-      millisecond = pos (rest % 1000);
+      hour = rest / 3600000;
+      minute = rest / 60000 % 60;
+      second = rest / 1000 % 60;
+      millisecond = rest % 1000;
     }
 
-unfoldable pub dayIn : List ℤ → Second → ℤ → Verdict Day
-dayIn leap s zone = milliIn leap s zone then (λ m. answered (dayOfMilli m))
+unfoldable pub shownIn : List ℤ → Second → ℤ → ShownTime
+shownIn leap s zone = shownOfMilli (milliIn leap s zone)
 
-unfoldable pub shownIn : List ℤ → Second → ℤ → Verdict ShownTime
-shownIn leap s zone = milliIn leap s zone then (λ m. answered (shownOfMilli m))
+-- ---- what is known once table and second are judged: what the inner functions ask. The zones -720 to 840 are within 1,000 minutes
+pub record Readable (leap : List ℤ) (s : Second) (zone : ℤ) : Type 0 where
+  pub lawful-table : leapLawful leap ≡ true
+  pub in-range : convertible s ≡ true
+  pub not-early : early leap s ≡ false
+  pub zone-small : Within 1000 zone

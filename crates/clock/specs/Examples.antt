@@ -1,21 +1,23 @@
--- Document 01's starred example of the clock, and refusals beside it, each a computed fact, and all of them checked at once. Assumes nothing.
+-- Document 01's starred example of the clock, and what its numbers and orders are, each a computed fact on both sides, and all of them checked at once.
+-- Assumes nothing.
 use Prim.Native.Nat.{ℕ, zero, suc, _^_, _-_}
 use mathlib.Core.Bool.{Bool, false, _&&_}
 use mathlib.Core.List.{List, [], _∷_}
-use lib.Dec.{T}
+use lib.Dec.{T, eqb}
 use lib.IntN.{ℤ, pos, negsuc}
 use Rattle.refusals.specs.Verdict.{Verdict, answered, refused}
 use Rattle.refusals.specs.Evaluated.{isAccepted, isRefused}
 use Rattle.whole.specs.Evaluated.{same, all}
 use Rattle.whole.specs.Floor.{floorDiv, floorMod}
+use Rattle.whole.specs.Below.{every, lastBelow}
 use Rattle.times.specs.declared.Day.{Day}
-use Rattle.dates.specs.Calendar.{leapYear, leapYearsTo, newYear, monthLengths, guess, yearOf, monthsOver, dateInYear, dateFor}
 use Rattle.times.specs.declared.Second.{Second}
 use Rattle.times.specs.declared.Milli.{Milli}
+use Rattle.dates.specs.Calendar.{leapYear, leapYearsTo, newYear, monthLengths, guess, yearOf, monthsOver, dateInYear, dateFor}
 use Rattle.clock.specs.declared.ShownTime.{ShownTime}
-use Rattle.clock.specs.Leap.{firstEntry, nextEntry, goodEntry, every, lawful, holdsFrom, holds, last, entryUsed}
-use Rattle.clock.specs.Clock.{convertible, tai, localMilli, milliIn, dayOfMilli, shownOfMilli, dayIn, shownIn}
-use Rattle.clock.specs.Answers.{leapJudged, judged, milliOf, dayOfSecond, shownOf}
+use Rattle.clock.specs.Leap.{firstEntry, nextEntry, goodEntry, leapLawful, holdsFrom, holds, entryUsed}
+use Rattle.clock.specs.Clock.{convertible, tai, early, localMilli, reading, milliIn, dayOfMilli, shownOfMilli, dayIn, shownIn}
+use Rattle.clock.specs.Answers.{leapJudged, clockJudged, milliOf, dayOfSecond, shownOf}
 
 abbrev second : ℤ → Second
 second s = record { 0 = s }
@@ -33,7 +35,7 @@ isShown (answered t) y m d hour minute s milli =
     same (t .date .year) (pos y)
     && (same (t .date .month) (pos m)
     && (same (t .date .day) (pos d)
-    && (same (t .hour) (pos hour) && (same (t .minute) (pos minute) && (same (t .second) (pos s) && same (t .millisecond) (pos milli))))))
+    && (eqb (t .hour) hour && (eqb (t .minute) minute && (eqb (t .second) s && eqb (t .millisecond) milli)))))
 isShown (refused number segment) y m d hour minute s milli = false
 
 -- n entries, one a day from day d on
@@ -48,9 +50,18 @@ table = negsuc 364 ∷ pos 32 ∷ []
 abbrev longer : List ℤ
 longer = negsuc 364 ∷ pos 32 ∷ pos 2192 ∷ pos 33 ∷ []
 
+-- the earliest table there is
+abbrev earliest : List ℤ
+earliest = negsuc 119999 ∷ pos 0 ∷ []
+
+-- a table that breaks its rule
+abbrev unlawful : List ℤ
+unlawful = pos 0 ∷ pos 1001 ∷ []
+
 unfoldable pub examples : List Bool
-unfolding leapYear leapYearsTo newYear monthLengths guess yearOf monthsOver dateInYear dateFor floorDiv floorMod firstEntry nextEntry goodEntry every lawful holdsFrom holds last entryUsed convertible tai localMilli milliIn dayOfMilli shownOfMilli dayIn shownIn leapJudged judged milliOf dayOfSecond shownOf
+unfolding leapYear leapYearsTo newYear monthLengths guess yearOf monthsOver dateInYear dateFor floorDiv floorMod firstEntry nextEntry goodEntry every leapLawful holdsFrom holds lastBelow entryUsed convertible tai early localMilli reading milliIn dayOfMilli shownOfMilli dayIn shownIn leapJudged clockJudged milliOf dayOfSecond shownOf
 examples =
+    -- document 01's starred example, and the first second of 2000
     isDay (dayOfSecond table (second (negsuc 836106))) (negsuc 9)
     ∷ isShown (shownOf table (second (negsuc 836106))) 1999 12 22 15 43 48 816
     ∷ isMilli (milliOf table (second (pos 0))) (pos 28735816)
@@ -59,16 +70,46 @@ examples =
     ∷ isShown (shownOf longer (second (pos 189388864))) 2006 1 1 7 59 59 816
     ∷ isShown (shownOf longer (second (pos 189388865))) 2006 1 1 8 0 0 816
     ∷ isShown (shownOf longer (second (pos 189388866))) 2006 1 1 8 0 0 816
+    -- the conversion range, -10,000,000,000 to 16,000,000,000
+    ∷ isMilli (milliOf earliest (second (negsuc 9999999999))) (negsuc 9999971232183)
+    ∷ isRefused (milliOf earliest (second (negsuc 10000000000))) 6
+    ∷ isMilli (milliOf earliest (second (pos 16000000000))) (pos 16000028767816)
+    ∷ isRefused (milliOf earliest (second (pos 16000000001))) 6
     ∷ isRefused (dayOfSecond table (second (pos 16000000001))) 6
     ∷ isRefused (dayOfSecond table (second (negsuc 10000000000))) 6
+    -- 7, on both sides of the first entry: it holds from TAI second 32 of 2000-01-01, and 65 TDB seconds are 32.816 s of TAI
     ∷ isRefused (dayOfSecond table (second (negsuc 32000000))) 7
+    ∷ isRefused (dayOfSecond (pos 0 ∷ pos 32 ∷ []) (second (pos 64))) 7
+    ∷ isDay (dayOfSecond (pos 0 ∷ pos 32 ∷ []) (second (pos 65))) (pos 0)
+    -- 1 before 6, 1 before 7, 6 before 7
+    ∷ isRefused (dayOfSecond unlawful (second (pos 16000000001))) 1
+    ∷ isRefused (dayOfSecond unlawful (second (pos 0))) 1
+    ∷ isRefused (dayOfSecond table (second (negsuc 10000000000))) 6
+    ∷ isRefused (dayOfSecond (pos 100000 ∷ pos 0 ∷ []) (second (negsuc 10000000000))) 6
+    -- 1 to 64 entries, in whole pairs
     ∷ isAccepted (leapJudged (daily 64 0))
     ∷ isRefused (leapJudged (daily 65 0)) 1
     ∷ isRefused (leapJudged []) 1
     ∷ isRefused (leapJudged (pos 0 ∷ [])) 1
     ∷ isRefused (leapJudged (pos 0 ∷ pos 32 ∷ pos 1 ∷ [])) 1
+    -- days -120,000 to 100,000, strictly rising
+    ∷ isAccepted (leapJudged (negsuc 119999 ∷ pos 32 ∷ []))
+    ∷ isRefused (leapJudged (negsuc 120000 ∷ pos 32 ∷ [])) 1
+    ∷ isAccepted (leapJudged (pos 100000 ∷ pos 32 ∷ []))
+    ∷ isRefused (leapJudged (pos 100001 ∷ pos 32 ∷ [])) 1
+    ∷ isAccepted (leapJudged (pos 0 ∷ pos 32 ∷ pos 100000 ∷ pos 33 ∷ []))
+    ∷ isRefused (leapJudged (pos 0 ∷ pos 32 ∷ pos 100001 ∷ pos 33 ∷ [])) 1
     ∷ isRefused (leapJudged (pos 0 ∷ pos 32 ∷ pos 0 ∷ pos 33 ∷ [])) 1
+    ∷ isAccepted (leapJudged (pos 0 ∷ pos 32 ∷ pos 1 ∷ pos 33 ∷ []))
+    -- offsets: first 0 to 1,000, then one more each time
+    ∷ isAccepted (leapJudged (pos 0 ∷ pos 0 ∷ []))
+    ∷ isRefused (leapJudged (pos 0 ∷ negsuc 0 ∷ [])) 1
+    ∷ isAccepted (leapJudged (pos 0 ∷ pos 1000 ∷ []))
+    ∷ isRefused (leapJudged (pos 0 ∷ pos 1001 ∷ [])) 1
+    ∷ isAccepted (leapJudged (pos 0 ∷ pos 1000 ∷ pos 1 ∷ pos 1001 ∷ []))
+    ∷ isRefused (leapJudged (pos 0 ∷ pos 32 ∷ pos 1 ∷ pos 32 ∷ [])) 1
     ∷ isRefused (leapJudged (pos 0 ∷ pos 32 ∷ pos 1 ∷ pos 34 ∷ [])) 1
+    -- words at the ends of the machine's range
     ∷ isRefused (leapJudged (negsuc (2 ^ 63 - 1) ∷ pos 32 ∷ [])) 1
     ∷ isRefused (leapJudged (pos 0 ∷ negsuc (2 ^ 63 - 1) ∷ [])) 1
     ∷ isRefused (leapJudged (pos 0 ∷ pos (2 ^ 63 - 1) ∷ [])) 1

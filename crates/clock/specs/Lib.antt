@@ -2,3 +2,6 @@ pub mod Leap
 pub mod Clock
 pub mod Answers
 pub mod Examples
+pub mod Theorems
+pub mod OneResult
+pub mod theory

@@ -1,64 +1,64 @@
 // The parts of the entry points. Those with a `requires` are for callers that have judged the table and the second: they judge nothing again.
 // The zone is in minutes.
+use super::Reading;
 use super::ShownTime;
+use refusals::Check;
 use times::Day;
 use times::Milli;
 use times::Second;
-use whole::inner::add;
-use whole::inner::count;
 use whole::inner::floor_mod;
-use whole::inner::multiply;
-use whole::inner::signed;
-use whole::inner::subtract;
+use whole::inner::in_range;
 ghost use mathlib.Core.Path.{_≡_};
 ghost use mathlib.Core.Bool.{true};
 ghost use Prim.Native.Nat.{suc, _+_, _*_, _<_};
+ghost use lib.IntN.{pos, _+ℤ_, _*ℤ_};
 ghost use lib.ListN.{length};
 ghost use Rattle.whole.specs.Ranges.{Within};
-ghost use Rattle.refusals.specs.Verdict.{answered};
-ghost use Rattle.clock.specs.Leap.{entries, firstEntry, nextEntry, goodEntry, lawful, holdsFrom, holds, entryUsed};
-ghost use Rattle.clock.specs.Clock.{convertible, tai, milliIn, dayIn, shownIn, dayOfMilli, shownOfMilli};
+ghost use Rattle.whole.specs.Tests.{isExactly};
+ghost use Rattle.refusals.specs.Verdict.{paperCheck};
 ghost use Rattle.dates.specs.Answers.{hasDate};
+ghost use Rattle.clock.specs.Leap.{entries, offset, utcDay, firstEntry, nextEntry, goodEntry, leapLawful, holdsFrom, holds, entryUsed};
+ghost use Rattle.clock.specs.Clock.{convertible, tai, early, localMilli, reading, milliIn, dayIn, shownIn, dayOfMilli, shownOfMilli, Readable};
+ghost use Rattle.clock.specs.Answers.{clockJudged};
+
+// Whether a day may stand in a table.
+fn utc_day(day: i64) -> bool
+    ensures { λ r. ⌜ r ≡ utcDay day ⌝ }
+{
+    in_range(-120000, 100000, day)
+}
 
 // Whether (day, offset) may be the first entry.
 fn first_entry(day: i64, offset: i64) -> bool
     ensures { λ r. ⌜ r ≡ firstEntry day offset ⌝ }
 {
-    if day < -120000 {
-        return false;
+    if utc_day(day) {
+        return in_range(0, 1000, offset);
     }
-    if 100000 < day {
-        return false;
-    }
-    if offset < 0 {
-        return false;
-    }
-    if 1000 < offset {
-        return false;
-    }
-    true
+    false
 }
 
 // Whether entry (day, offset) may follow entry (d, o). The offsets are compared before one is taken off, so that nothing overflows.
 fn next_entry(d: i64, o: i64, day: i64, offset: i64) -> bool
     ensures { λ r. ⌜ r ≡ nextEntry d o day offset ⌝ }
 {
-    if day < -120000 {
-        return false;
-    }
-    if 100000 < day {
+    if !utc_day(day) {
         return false;
     }
     if day <= d {
         return false;
     }
+    one_more(o, offset)
+}
+
+// Whether an offset is one more than the one before it.
+fn one_more(o: i64, offset: i64) -> bool
+    ensures { λ r. ⌜ r ≡ isExactly (o +ℤ pos 1) offset ⌝ }
+{
     if offset <= o {
         return false;
     }
-    if o < subtract(offset, 1) {
-        return false;
-    }
-    true
+    offset - 1 <= o
 }
 
 // Whether entry i + 1 may follow entry i.
@@ -75,8 +75,8 @@ fn good_after(leap: &[i64], i: usize) -> bool
 }
 
 // Whether a leap table keeps its rule.
-pub fn lawful(leap: &[i64]) -> bool
-    ensures { λ r. ⌜ r ≡ lawful (now (leap .entry)) ⌝ }
+pub fn leap_lawful(leap: &[i64]) -> bool
+    ensures { λ r. ⌜ r ≡ leapLawful (now (leap .entry)) ⌝ }
 {
     let words = leap.len();
     if 0 < words % 2 {
@@ -101,20 +101,27 @@ pub fn lawful(leap: &[i64]) -> bool
     true
 }
 
+// The TAI millisecond of a day and an offset, the words of an entry.
+fn moment_of(day: i64, offset: i64) -> i64
+    requires { ⌜ Within 120000 day ⌝ }
+    requires { ⌜ Within 2000 offset ⌝ }
+    ensures { λ r. ⌜ r ≡ pos 1000 *ℤ (pos 86400 *ℤ day +ℤ offset) ⌝ }
+{
+    1000 * (86400 * day + offset)
+}
+
 // The TAI millisecond from which entry i holds.
 fn holds_from(leap: &[i64], i: usize) -> i64
-    requires { ⌜ lawful (now leap) ≡ true ⌝ }
+    requires { ⌜ leapLawful (now leap) ≡ true ⌝ }
     requires { ⌜ i < entries (now leap) ⌝ }
     ensures { λ r. ⌜ r ≡ holdsFrom (now (leap .entry)) i ⌝ }
 {
-    let day = leap[2 * i];
-    let offset = leap[2 * i + 1];
-    multiply(1000, add(multiply(86400, day), offset))
+    moment_of(leap[2 * i], leap[2 * i + 1])
 }
 
 // Whether entry i holds by TAI millisecond t.
 fn holds(leap: &[i64], t: i64, i: usize) -> bool
-    requires { ⌜ lawful (now leap) ≡ true ⌝ }
+    requires { ⌜ leapLawful (now leap) ≡ true ⌝ }
     requires { ⌜ i < entries (now leap) ⌝ }
     ensures { λ r. ⌜ r ≡ holds (now (leap .entry)) t i ⌝ }
 {
@@ -123,9 +130,9 @@ fn holds(leap: &[i64], t: i64, i: usize) -> bool
 
 // The entry used at TAI millisecond t, by bisection: `low` holds by then, and nothing from `high` on does.
 fn entry_used(leap: &[i64], t: i64) -> usize
-    requires { ⌜ lawful (now leap) ≡ true ⌝ }
+    requires { ⌜ leapLawful (now leap) ≡ true ⌝ }
     requires { ⌜ holds (now leap) t 0 ≡ true ⌝ }
-    ensures { λ r. ⌜ entryUsed (now (leap .entry)) t ≡ answered r ⌝ }
+    ensures { λ r. ⌜ r ≡ entryUsed (now (leap .entry)) t ⌝ }
 {
     let mut low: usize = 0;
     let mut high = leap.len() / 2;
@@ -140,18 +147,19 @@ fn entry_used(leap: &[i64], t: i64) -> usize
     low
 }
 
+// The offset of entry i.
+fn offset_at(leap: &[i64], i: usize) -> i64
+    requires { ⌜ i < entries (now leap) ⌝ }
+    ensures { λ r. ⌜ r ≡ offset (now (leap .entry)) i ⌝ }
+{
+    leap[2 * i + 1]
+}
+
 // Whether a second can be converted.
 pub fn convertible(second: Second) -> bool
     ensures { λ r. ⌜ r ≡ convertible second ⌝ }
 {
-    let s = second.0;
-    if s < -10000000000 {
-        return false;
-    }
-    if 16000000000 < s {
-        return false;
-    }
-    true
+    in_range(-10000000000, 16000000000, second.0)
 }
 
 // The TAI millisecond of a TDB second.
@@ -160,39 +168,70 @@ fn tai_of(second: Second) -> i64
     ensures { λ r. ⌜ r ≡ tai second ⌝ }
 {
     let s = second.0;
-    subtract(multiply(1000, s), 32184)
+    1000 * s - 32184
 }
 
-// Whether the first entry holds by a second; where it does not, conversion gives 7.
-pub fn held_from(leap: &[i64], second: Second) -> bool
-    requires { ⌜ lawful (now leap) ≡ true ⌝ }
+// Whether a second lies before the first leap entry.
+pub fn early(leap: &[i64], second: Second) -> bool
+    requires { ⌜ leapLawful (now leap) ≡ true ⌝ }
     requires { ⌜ convertible second ≡ true ⌝ }
-    ensures { λ r. ⌜ r ≡ holds (now (leap .entry)) (tai second) 0 ⌝ }
+    ensures { λ r. ⌜ r ≡ early (now (leap .entry)) second ⌝ }
 {
-    holds(leap, tai_of(second), 0)
+    !holds(leap, tai_of(second), 0)
+}
+
+// Whether a second is converted by a table: the judge behind the conversions.
+pub fn judge(leap: &[i64], second: Second) -> Check
+    ensures { λ r. ⌜ paperCheck r ≡ clockJudged (now (leap .entry)) second ⌝ }
+{
+    if !leap_lawful(leap) {
+        return Check::Refused(refusals::LEAP_TABLE);
+    }
+    if !convertible(second) {
+        return Check::Refused(refusals::OUTSIDE);
+    }
+    if early(leap, second) {
+        return Check::Refused(refusals::TOO_EARLY);
+    }
+    Check::Accepted
+}
+
+// The local millisecond of a TAI millisecond under an offset.
+fn local_milli(t: i64, offset: i64, zone: i64) -> Milli
+    requires { ⌜ Within 20000000000000 t ⌝ }
+    requires { ⌜ Within 2000 offset ⌝ }
+    requires { ⌜ Within 1000 zone ⌝ }
+    ensures { λ r. ⌜ r ≡ localMilli t offset zone ⌝ }
+{
+    Milli(t - 1000 * offset + 60000 * zone)
+}
+
+// What the clock reads at a second.
+pub fn reading(leap: &[i64], second: Second, zone: i64) -> Reading
+    requires { ⌜ Readable (now leap) second zone ⌝ }
+    ensures { λ r. ⌜ r ≡ reading (now (leap .entry)) second zone ⌝ }
+{
+    let t = tai_of(second);
+    let offset = offset_at(leap, entry_used(leap, t));
+    Reading {
+        milli: local_milli(t, offset, zone),
+        inserted: false,
+    }
 }
 
 // The local millisecond of a second.
 pub fn milli_in(leap: &[i64], second: Second, zone: i64) -> Milli
-    requires { ⌜ lawful (now leap) ≡ true ⌝ }
-    requires { ⌜ convertible second ≡ true ⌝ }
-    requires { ⌜ holds (now leap) (tai second) 0 ≡ true ⌝ }
-    requires { ⌜ Within 1000 zone ⌝ }
-    ensures { λ r. ⌜ milliIn (now (leap .entry)) second zone ≡ answered r ⌝ }
+    requires { ⌜ Readable (now leap) second zone ⌝ }
+    ensures { λ r. ⌜ r ≡ milliIn (now (leap .entry)) second zone ⌝ }
 {
-    let t = tai_of(second);
-    let i = entry_used(leap, t);
-    let offset = leap[2 * i + 1];
-    Milli(add(subtract(t, multiply(1000, offset)), multiply(60000, zone)))
+    let read = reading(leap, second, zone);
+    read.milli
 }
 
 // The local day of a second.
 pub fn day_in(leap: &[i64], second: Second, zone: i64) -> Day
-    requires { ⌜ lawful (now leap) ≡ true ⌝ }
-    requires { ⌜ convertible second ≡ true ⌝ }
-    requires { ⌜ holds (now leap) (tai second) 0 ≡ true ⌝ }
-    requires { ⌜ Within 1000 zone ⌝ }
-    ensures { λ r. ⌜ dayIn (now (leap .entry)) second zone ≡ answered r ⌝ }
+    requires { ⌜ Readable (now leap) second zone ⌝ }
+    ensures { λ r. ⌜ r ≡ dayIn (now (leap .entry)) second zone ⌝ }
 {
     super::day_of_milli(milli_in(leap, second, zone))
 }
@@ -204,23 +243,20 @@ fn shown_of_milli(milli: Milli) -> ShownTime
 {
     let m = milli.0;
     let date = dates::inner::date_for(super::day_of_milli(milli));
-    let rest = count(floor_mod(m, 86400000));
+    let rest = whole::absolute(floor_mod(m, 86400000));
     ShownTime {
         date: date,
-        hour: signed(rest / 3600000),
-        minute: signed(rest / 60000 % 60),
-        second: signed(rest / 1000 % 60),
-        millisecond: signed(rest % 1000),
+        hour: rest / 3600000,
+        minute: rest / 60000 % 60,
+        second: rest / 1000 % 60,
+        millisecond: rest % 1000,
     }
 }
 
 // The local time of a second, as it is shown.
 pub fn shown_in(leap: &[i64], second: Second, zone: i64) -> ShownTime
-    requires { ⌜ lawful (now leap) ≡ true ⌝ }
-    requires { ⌜ convertible second ≡ true ⌝ }
-    requires { ⌜ holds (now leap) (tai second) 0 ≡ true ⌝ }
-    requires { ⌜ Within 1000 zone ⌝ }
-    ensures { λ r. ⌜ shownIn (now (leap .entry)) second zone ≡ answered r ⌝ }
+    requires { ⌜ Readable (now leap) second zone ⌝ }
+    ensures { λ r. ⌜ r ≡ shownIn (now (leap .entry)) second zone ⌝ }
 {
     shown_of_milli(milli_in(leap, second, zone))
 }

@@ -14,13 +14,19 @@ ghost use Rattle.clock.specs.Answers.{leapJudged, milliOf, dayOfSecond, 
 
 pub mod inner;
 
+// One reading of the clock: the count in the zone, and whether the second is an inserted one.
+pub struct Reading {
+    pub milli: Milli,
+    pub inserted: bool,
+}
+
 // A time as it is shown.
 pub struct ShownTime {
     pub date: Date,
-    pub hour: i64,
-    pub minute: i64,
-    pub second: i64,
-    pub millisecond: i64,
+    pub hour: u64,
+    pub minute: u64,
+    pub second: u64,
+    pub millisecond: u64,
 }
 
 pub enum MilliAnswer {
@@ -37,13 +43,10 @@ pub enum ShownAnswer {
 pub fn judge_leap_table(leap: &[i64]) -> Check
     ensures { λ r. ⌜ paperCheck r ≡ leapJudged (now (leap .entry)) ⌝ }
 {
-    if inner::lawful(leap) {
+    if inner::leap_lawful(leap) {
         return Check::Accepted;
     }
-    Check::Refused(Refusal {
-        number: 1,
-        segment: 0,
-    })
+    Check::Refused(refusals::LEAP_TABLE)
 }
 
 // The day of a millisecond.
@@ -58,73 +61,31 @@ pub fn day_of_milli(milli: Milli) -> Day
 pub fn milli_of(leap: &[i64], second: Second) -> MilliAnswer
     ensures { λ r. ⌜ paperMilli r ≡ milliOf (now (leap .entry)) second ⌝ }
 {
-    if !inner::lawful(leap) {
-        return MilliAnswer::Refused(Refusal {
-            number: 1,
-            segment: 0,
-        });
+    let check = inner::judge(leap, second);
+    match check {
+        Check::Accepted => MilliAnswer::Found(inner::milli_in(leap, second, 480)),
+        Check::Refused(refusal) => MilliAnswer::Refused(refusal),
     }
-    if !inner::convertible(second) {
-        return MilliAnswer::Refused(Refusal {
-            number: 6,
-            segment: 0,
-        });
-    }
-    if !inner::held_from(leap, second) {
-        return MilliAnswer::Refused(Refusal {
-            number: 7,
-            segment: 0,
-        });
-    }
-    MilliAnswer::Found(inner::milli_in(leap, second, 480))
 }
 
 // The UTC+8 day of a second.
 pub fn day_of_second(leap: &[i64], second: Second) -> DayAnswer
     ensures { λ r. ⌜ paperDay r ≡ dayOfSecond (now (leap .entry)) second ⌝ }
 {
-    if !inner::lawful(leap) {
-        return DayAnswer::Refused(Refusal {
-            number: 1,
-            segment: 0,
-        });
+    let check = inner::judge(leap, second);
+    match check {
+        Check::Accepted => DayAnswer::Found(inner::day_in(leap, second, 480)),
+        Check::Refused(refusal) => DayAnswer::Refused(refusal),
     }
-    if !inner::convertible(second) {
-        return DayAnswer::Refused(Refusal {
-            number: 6,
-            segment: 0,
-        });
-    }
-    if !inner::held_from(leap, second) {
-        return DayAnswer::Refused(Refusal {
-            number: 7,
-            segment: 0,
-        });
-    }
-    DayAnswer::Found(inner::day_in(leap, second, 480))
 }
 
 // The UTC+8 time of a second, as it is shown.
 pub fn shown(leap: &[i64], second: Second) -> ShownAnswer
     ensures { λ r. ⌜ paperShown r ≡ shownOf (now (leap .entry)) second ⌝ }
 {
-    if !inner::lawful(leap) {
-        return ShownAnswer::Refused(Refusal {
-            number: 1,
-            segment: 0,
-        });
+    let check = inner::judge(leap, second);
+    match check {
+        Check::Accepted => ShownAnswer::Found(inner::shown_in(leap, second, 480)),
+        Check::Refused(refusal) => ShownAnswer::Refused(refusal),
     }
-    if !inner::convertible(second) {
-        return ShownAnswer::Refused(Refusal {
-            number: 6,
-            segment: 0,
-        });
-    }
-    if !inner::held_from(leap, second) {
-        return ShownAnswer::Refused(Refusal {
-            number: 7,
-            segment: 0,
-        });
-    }
-    ShownAnswer::Found(inner::shown_in(leap, second, 480))
 }

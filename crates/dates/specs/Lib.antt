@@ -1,3 +1,4 @@
 pub mod Calendar
 pub mod Answers
 pub mod Examples
+pub mod OneResult

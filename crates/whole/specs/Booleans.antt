@@ -11,3 +11,13 @@ both false b e = let z : _≡_ {A = ℕ} 0 1 = cc in absurd (omega arith)
 pub second-fails : (a b : Bool) → b ≡ false → (a && b) ≡ false
 second-fails true b e = e
 second-fails false b e = refl
+
+pub first-fails : (a b : Bool) → a ≡ false → (a && b) ≡ false
+first-fails a b e = rw e
+
+pub both-hold : (a b : Bool) → a ≡ true → b ≡ true → (a && b) ≡ true
+both-hold a b e f = rw (e, f)
+
+-- no test is both
+pub not-both : {X : Type 0} {b : Bool} → b ≡ true → b ≡ false → X
+not-both p q = let z : _≡_ {A = ℕ} 0 1 = cc in absurd (omega arith)

@@ -10,3 +10,5 @@ pub mod Worked
 pub mod Booleans
 pub mod Evaluated
 pub mod Lists
+pub mod Tests
+pub mod Below

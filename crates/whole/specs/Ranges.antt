@@ -111,3 +111,10 @@ below-zero {a} f h = go a (f .sfits) h
     go : (a : ℤ) → mag a < 2 ^ 63 → a <ℤ pos 0 → SFits w64 (negsuc 0 -ℤ a) × (T (nonNeg (negsuc 0 -ℤ a)) × (Fits w64 (natAbs (negsuc 0 -ℤ a)) × (natAbs (negsuc 0 -ℤ a) + 1 ≡ natAbs a)))
     go (pos n) f h = absurd (omega (arith, <→ h))
     go (negsuc n) f h = rw (back-up n) (record { sfits = f }, (tt, (record { fits = omega arith }, omega arith)))
+
+-- what a call's `.ok` says of its result, as the range, and the result read back from its bits
+pub ok-fits : (z : ℤ) → mag z < 2 ^ 63 → SFits w64 z
+ok-fits z h = record { sfits = h }
+
+pub read-back : (z : ℤ) → mag z < 2 ^ 63 → toZ w64 (ofZ w64 z) ≡ z
+read-back z h = toZ-ofZ (ok-fits z h)

@@ -7,6 +7,7 @@ ghost use mir.Syntax.{w64};
 ghost use mir.Val.{SFits};
 ghost use Rattle.whole.specs.Floor.{floorDiv, floorMod};
 ghost use Rattle.whole.specs.Distance.{distanceFrom, halfWay};
+ghost use Rattle.whole.specs.Tests.{inRange};
 
 // The sum of two numbers, where it fits.
 pub fn add(a: i64, b: i64) -> i64
@@ -84,4 +85,14 @@ pub fn middle(a: i64, b: i64) -> i64
 {
     let half = distance(a, b) / 2;
     add(a, signed(half))
+}
+
+// Whether a number lies in a range, both ends included.
+pub fn in_range(low: i64, high: i64, z: i64) -> bool
+    ensures { λ r. ⌜ r ≡ inRange low high z ⌝ }
+{
+    if z < low {
+        return false;
+    }
+    z <= high
 }

@@ -3,7 +3,7 @@ use Prim.Native.Nat.{_-_}
 use native.Mathlib.Omega.{arith}
 use mir.Val.{toZ}
 use Rattle.clock.specs.Leap.{holds}
-use Rattle.clock.proofs.Used.{Bracket, bracket, raise, lower, found}
+use Rattle.clock.specs.theory.Used.{Bracket, bracket, raise, lower, found}
 use mathlib.Core.Path.{sym, _∙_}
 use borrow.Author.Needs.{needs}
 use mir.Syntax.{w64}

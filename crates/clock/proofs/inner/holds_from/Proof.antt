@@ -1,98 +1,63 @@
 -- `clock::inner::holds_from` meets its contract. Assumes nothing.
-use Rattle.whole.specs.Ranges.{fits, bounds}
-use Rattle.clock.specs.Leap.{day, offset, holdsFrom}
-use Rattle.clock.proofs.Table.{day-small, offset-small}
-use mathlib.Core.Path.{_∙_}
 use borrow.Author.Needs.{needs}
 use mir.Syntax.{w64}
 use mir.Val.{SFits}
 use mir.Facts.{toZ-ofZ}
+use Rattle.clock.specs.Leap.{day, offset, holdsFrom}
+use Rattle.clock.specs.theory.Table.{day-small, offset-small}
 use Rattle.clock.proofs.inner.holds_from.Statement.{statement}
 use Rattle.clock.proofs.inner.holds_from.Tie as tie
 
-mul-day : tie.Need-mul-day
-mul-day c = search needs
+mul-moment-of : tie.Need-mul-moment-of
+mul-moment-of c = search needs
 
-mul-day-2 : tie.Need-mul-day-2
-mul-day-2 c = search needs
+mul-moment-of-2 : tie.Need-mul-moment-of-2
+mul-moment-of-2 c = search needs
 
-shared-slice-copy-out-day : tie.Need-shared-slice-copy-out-day
-shared-slice-copy-out-day c = search needs
+shared-slice-copy-out-moment-of : tie.Need-shared-slice-copy-out-moment-of
+shared-slice-copy-out-moment-of c = search needs
 
-mul-offset : tie.Need-mul-offset
-mul-offset c = search needs
+mul-moment-of-3 : tie.Need-mul-moment-of-3
+mul-moment-of-3 c = search needs
 
-add-offset : tie.Need-add-offset
-add-offset c = search needs
+add-moment-of : tie.Need-add-moment-of
+add-moment-of c = search needs
 
-mul-offset-2 : tie.Need-mul-offset-2
-mul-offset-2 c = search needs
+mul-moment-of-4 : tie.Need-mul-moment-of-4
+mul-moment-of-4 c = search needs
 
-shared-slice-copy-out-offset : tie.Need-shared-slice-copy-out-offset
-shared-slice-copy-out-offset c = search needs
+shared-slice-copy-out-moment-of-2 : tie.Need-shared-slice-copy-out-moment-of-2
+shared-slice-copy-out-moment-of-2 c = search needs
 
-multiply-requires : tie.Need-multiply-requires
-multiply-requires c κs =
-    let w = c .before .before .args .leap .now in
-    let i = c .before .before .args .i in
+moment-of-requires : tie.Need-moment-of-requires
+moment-of-requires c κs =
+    let start = c .before .before in
+    let w = start .args .leap .now in
+    let i = start .args .i in
     let d : SFits w64 (day w i) = search needs in
     let o : SFits w64 (offset w i) = search needs in
-    let small-day = day-small w (c .before .before .pre .0) i (c .before .before .pre .1) in
-    let small-offset = offset-small w (c .before .before .pre .0) i (c .before .before .pre .1) in
-    rw (toZ-ofZ d) (fits (search bounds) tt)
-
-add-requires : tie.Need-add-requires
-add-requires c κs =
-    let w = c .before .before .before .args .leap .now in
-    let i = c .before .before .before .args .i in
-    let d : SFits w64 (day w i) = search needs in
-    let o : SFits w64 (offset w i) = search needs in
-    let small-day = day-small w (c .before .before .before .pre .0) i (c .before .before .before .pre .1) in
-    let small-offset = offset-small w (c .before .before .before .pre .0) i (c .before .before .before .pre .1) in
-    let f : SFits w64 (c .multiply .result) = search needs in
-    let e = rw (toZ-ofZ d) at (c .multiply .ensures) in
-    rw (toZ-ofZ f, toZ-ofZ o, e) (fits (search bounds) tt)
-
-multiply-requires-2 : tie.Need-multiply-requires-2
-multiply-requires-2 c κs =
-    let w = c .before .before .before .before .args .leap .now in
-    let i = c .before .before .before .before .args .i in
-    let d : SFits w64 (day w i) = search needs in
-    let o : SFits w64 (offset w i) = search needs in
-    let small-day = day-small w (c .before .before .before .before .pre .0) i (c .before .before .before .before .pre .1) in
-    let small-offset = offset-small w (c .before .before .before .before .pre .0) i (c .before .before .before .before .pre .1) in
-    let f : SFits w64 (c .before .multiply .result) = search needs in
-    let e = rw (toZ-ofZ d) at (c .before .multiply .ensures) in
-    let g : SFits w64 (c .add .result) = search needs in
-    let e2 = rw (toZ-ofZ f, toZ-ofZ o, e) at (c .add .ensures) in
-    rw (toZ-ofZ g, e2) (fits (search bounds) tt)
+    rw (toZ-ofZ d, toZ-ofZ o) (day-small w (start .pre .0) i (start .pre .1), offset-small w (start .pre .0) i (start .pre .1))
 
 returns : tie.Need-returns
 unfolding holdsFrom
 returns c =
-    let w = c .before .before .before .before .before .args .leap .now in
-    let i = c .before .before .before .before .before .args .i in
-    let d : SFits w64 (day w i) = search needs in
-    let o : SFits w64 (offset w i) = search needs in
-    let f : SFits w64 (c .before .before .multiply .result) = search needs in
-    let e = rw (toZ-ofZ d) at (c .before .before .multiply .ensures) in
-    let g : SFits w64 (c .before .add .result) = search needs in
-    let e2 = rw (toZ-ofZ f, toZ-ofZ o, e) at (c .before .add .ensures) in
-    let h : SFits w64 (c .multiply2 .result) = search needs in
-    toZ-ofZ h ∙ (rw (toZ-ofZ g, e2) at (c .multiply2 .ensures))
+    let start = c .before .before .before in
+    let w = start .args .leap .now in
+    let d : SFits w64 (day w (start .args .i)) = search needs in
+    let o : SFits w64 (offset w (start .args .i)) = search needs in
+    let f : SFits w64 (c .moment-of .result) = search needs in
+    rw (toZ-ofZ f) (rw (toZ-ofZ d, toZ-ofZ o) at (c .moment-of .ensures))
 
 pub holds-from-spec : {M : Type 1} → statement M
 holds-from-spec =
     tie.close
     (tie.spec
-    mul-day
-    mul-day-2
-    shared-slice-copy-out-day
-    mul-offset
-    add-offset
-    mul-offset-2
-    shared-slice-copy-out-offset
-    multiply-requires
-    add-requires
-    multiply-requires-2
+    mul-moment-of
+    mul-moment-of-2
+    shared-slice-copy-out-moment-of
+    mul-moment-of-3
+    add-moment-of
+    mul-moment-of-4
+    shared-slice-copy-out-moment-of-2
+    moment-of-requires
     returns)

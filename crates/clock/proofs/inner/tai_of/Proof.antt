@@ -1,39 +1,25 @@
 -- `clock::inner::tai_of` meets its contract. Assumes nothing.
-use Rattle.whole.specs.Ranges.{fits, bounds}
+use mathlib.Core.Path.{refl}
+use mathlib.Core.List.{[], _∷_}
+use Rattle.whole.specs.Ranges.{fits, bounds, bound-back, ok-fits}
+use Rattle.whole.specs.Solver.{⇑, ring, value-of}
 use Rattle.clock.specs.Clock.{tai}
-use Rattle.clock.proofs.Sizes.{second-small}
-use mathlib.Core.Path.{_∙_}
-use borrow.Author.Needs.{needs}
-use mir.Syntax.{w64}
-use mir.Val.{SFits}
-use mir.Facts.{toZ-ofZ}
+use Rattle.clock.specs.theory.Sizes.{second-small}
 use Rattle.clock.proofs.inner.tai_of.Statement.{statement}
 use Rattle.clock.proofs.inner.tai_of.Tie as tie
 
-multiply-requires : tie.Need-multiply-requires
-multiply-requires c κs =
-    let s = c .before .args .second in
-    let f : SFits w64 (s .0) = search needs in
-    let small = second-small s (c .before .pre) in
-    rw (toZ-ofZ f) (fits (search bounds) tt)
+mul-result : tie.Need-mul-result
+mul-result c = let small = second-small (c .before .args .second) (c .before .pre) in fits (search bounds) tt
 
-subtract-requires : tie.Need-subtract-requires
-subtract-requires c κs =
-    let s = c .before .before .args .second in
-    let f : SFits w64 (s .0) = search needs in
-    let g : SFits w64 (c .multiply .result) = search needs in
-    let small = second-small s (c .before .before .pre) in
-    let e = rw (toZ-ofZ f) at (c .multiply .ensures) in
-    rw (toZ-ofZ g, e) (fits (search bounds) tt)
+sub-result : tie.Need-sub-result
+sub-result c = let small = second-small (c .before .args .second) (c .before .pre) in fits (search (bounds, bound-back (mul-result c))) tt
 
 returns : tie.Need-returns
 unfolding tai
 returns c =
-    let f : SFits w64 (c .before .before .before .args .second .0) = search needs in
-    let g : SFits w64 (c .before .multiply .result) = search needs in
-    let h : SFits w64 (c .subtract .result) = search needs in
-    let e = rw (toZ-ofZ f) at (c .before .multiply .ensures) in
-    toZ-ofZ h ∙ (rw (toZ-ofZ g, e) at (c .subtract .ensures))
+    let ρ = c .before .args .second .0 ∷ [] in
+    let f = ok-fits (c .before .args .second .0) (c .struct-told .given .0 .1) in
+    ⇑ ρ (search (ring, value-of ρ (mul-result c), value-of ρ (sub-result c)) depth 12) refl
 
 pub tai-of-spec : {M : Type 1} → statement M
-tai-of-spec = tie.close (tie.spec multiply-requires subtract-requires returns)
+tai-of-spec = tie.close (tie.spec mul-result sub-result returns)

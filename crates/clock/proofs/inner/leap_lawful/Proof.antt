@@ -1,10 +1,10 @@
--- `clock::inner::lawful` meets its contract. The loop's invariant: entries 0 to i are good. Assumes nothing.
+-- `clock::inner::leap_lawful` meets its contract. The loop's invariant: entries 0 to i are good. Assumes nothing.
 use Prim.Native.Nat.{ℕ, suc, _+_, _*_, _-_, _<_}
 use lib.ListN.{length, getD}
 use native.Mathlib.Omega.{arith}
 use borrow.Author.Tests.{not-true, not-false}
 use Rattle.clock.specs.Leap.{goodEntry}
-use Rattle.clock.proofs.Search.{below}
+use Rattle.whole.specs.Below.{below}
 use Rattle.clock.proofs.Tests.{odd, empty, too-long, bad-entry, all-good}
 use mathlib.Core.Path.{_≡_, sym, ap, _∙_}
 use mathlib.Core.Bool.{true}
@@ -13,8 +13,8 @@ use borrow.Author.Needs.{needs}
 use mir.Syntax.{w64}
 use mir.Val.{SFits}
 use mir.Facts.{toZ-ofZ}
-use Rattle.clock.proofs.inner.lawful.Statement.{statement}
-use Rattle.clock.proofs.inner.lawful.Tie as tie
+use Rattle.clock.proofs.inner.leap_lawful.Statement.{statement}
+use Rattle.clock.proofs.inner.leap_lawful.Tie as tie
 
 abbrev Inv-loop : tie.InvT-loop
 Inv-loop leap words i₀ i = (2 * i + 1 < length leap) × ((k : ℕ) → k < suc i → goodEntry leap k ≡ true)
@@ -91,8 +91,8 @@ returns-6 c =
     let w = c .before .before .before .before .before .before .before .before .before .args .leap .now in
     all-good w (omega arith) (omega arith) (omega arith) (λ k h. c .before .loop .inv .1 k (omega arith))
 
-pub lawful-spec : {M : Type 1} → statement M
-lawful-spec =
+pub leap-lawful-spec : {M : Type 1} → statement M
+leap-lawful-spec =
     tie.close
     (tie.spec
     Inv-loop

@@ -5,24 +5,22 @@ use mathlib.Core.Bool.{true, _&&_}
 use mathlib.Core.List.{List, [], _∷_}
 use native.Mathlib.Omega.{arith}
 use lib.IntN.{ℤ, pos, negsuc, _+ℤ_}
-use lib.Signed.{leZ, ltZ}
+use lib.Signed.{ltZ}
 use lib.ListN.{length}
 use lib.Dec.{eqb, leb}
 use borrow.Author.Tests.{leb-true}
 use Rattle.whole.specs.Parts.{_⩽_, _≺_}
-use Rattle.whole.specs.Laws.{≤-antisymm, ≤-trans, <→≤}
+use Rattle.whole.specs.Laws.{≤-trans, <→≤}
 use Rattle.whole.specs.Ranges.{Within}
-use Rattle.whole.specs.Solver.{⇑, ⇓, ring, lt-yes, le-yes}
-use Rattle.clock.specs.Leap.{between, utcDay, day, offset, firstEntry, nextEntry, goodEntry, every, lawful, entries, holdsFrom}
+use Rattle.whole.specs.Solver.{⇑, ⇓, ring, lt-yes}
 use Rattle.whole.specs.Booleans.{both}
-use Rattle.clock.proofs.Search.{every-at}
+use Rattle.whole.specs.Tests.{inRange, isExactly, in-range-says, exactly-says}
+use Rattle.whole.specs.Below.{every, every-at}
+use Rattle.clock.specs.Leap.{utcDay, day, offset, firstEntry, nextEntry, goodEntry, leapLawful, entries, holdsFrom}
 
-range : (low high z : ℤ) → between low high z ≡ true → (low ⩽ z) × (z ⩽ high)
-range low high z e = let b = both (leZ low z) (leZ z high) e in (le-yes {a = low} {b = z} (b .0), le-yes {a = z} {b = high} (b .1))
-
-module _ (w : List ℤ) (l : lawful w ≡ true) where
+module _ (w : List ℤ) (l : leapLawful w ≡ true) where
   parts : (eqb (length w % 2) 0 ≡ true) × ((leb 2 (length w) ≡ true) × ((leb (length w) 128 ≡ true) × (every (goodEntry w) (entries w) ≡ true)))
-  unfolding lawful
+  unfolding leapLawful
   parts =
       let a = both (eqb (length w % 2) 0) (leb 2 (length w) && (leb (length w) 128 && every (goodEntry w) (entries w))) l in
       let b = both (leb 2 (length w)) (leb (length w) 128 && every (goodEntry w) (entries w)) (a .1) in
@@ -48,27 +46,27 @@ module _ (w : List ℤ) (l : lawful w ≡ true) where
 
   day-first : (negsuc 119999 ⩽ day w 0) × (day w 0 ⩽ pos 100000)
   unfolding firstEntry
-  day-first = range (negsuc 119999) (pos 100000) (day w 0) (both (utcDay (day w 0)) (between (pos 0) (pos 1000) (offset w 0)) first-good .0)
+  day-first = in-range-says (negsuc 119999) (pos 100000) (day w 0) (both (utcDay (day w 0)) (inRange (pos 0) (pos 1000) (offset w 0)) first-good .0)
 
   pub offset-first : (pos 0 ⩽ offset w 0) × (offset w 0 ⩽ pos 1000)
   unfolding firstEntry
-  offset-first = range (pos 0) (pos 1000) (offset w 0) (both (utcDay (day w 0)) (between (pos 0) (pos 1000) (offset w 0)) first-good .1)
+  offset-first = in-range-says (pos 0) (pos 1000) (offset w 0) (both (utcDay (day w 0)) (inRange (pos 0) (pos 1000) (offset w 0)) first-good .1)
 
   module _ (i : ℕ) (h : suc i < entries w) where
-    next-parts : (utcDay (day w (suc i)) ≡ true) × ((ltZ (day w i) (day w (suc i)) ≡ true) × (between (offset w i +ℤ pos 1) (offset w i +ℤ pos 1) (offset w (suc i)) ≡ true))
+    next-parts : (utcDay (day w (suc i)) ≡ true) × ((ltZ (day w i) (day w (suc i)) ≡ true) × (isExactly (offset w i +ℤ pos 1) (offset w (suc i)) ≡ true))
     unfolding nextEntry
     next-parts =
-        let a = both (utcDay (day w (suc i))) (ltZ (day w i) (day w (suc i)) && between (offset w i +ℤ pos 1) (offset w i +ℤ pos 1) (offset w (suc i))) (next-good i h) in
-        (a .0, both (ltZ (day w i) (day w (suc i))) (between (offset w i +ℤ pos 1) (offset w i +ℤ pos 1) (offset w (suc i))) (a .1))
+        let a = both (utcDay (day w (suc i))) (ltZ (day w i) (day w (suc i)) && isExactly (offset w i +ℤ pos 1) (offset w (suc i))) (next-good i h) in
+        (a .0, both (ltZ (day w i) (day w (suc i))) (isExactly (offset w i +ℤ pos 1) (offset w (suc i))) (a .1))
 
     day-next-range : (negsuc 119999 ⩽ day w (suc i)) × (day w (suc i) ⩽ pos 100000)
-    day-next-range = range (negsuc 119999) (pos 100000) (day w (suc i)) (next-parts .0)
+    day-next-range = in-range-says (negsuc 119999) (pos 100000) (day w (suc i)) (next-parts .0)
 
     pub day-rises : day w i ≺ day w (suc i)
     day-rises = lt-yes {a = day w i} {b = day w (suc i)} (next-parts .1 .0)
 
     pub offset-next : offset w (suc i) ≡ offset w i +ℤ pos 1
-    offset-next = let r = range (offset w i +ℤ pos 1) (offset w i +ℤ pos 1) (offset w (suc i)) (next-parts .1 .1) in ≤-antisymm (r .1) (r .0)
+    offset-next = exactly-says (offset w i +ℤ pos 1) (offset w (suc i)) (next-parts .1 .1)
 
   day-range : (i : ℕ) → i < entries w → (negsuc 119999 ⩽ day w i) × (day w i ⩽ pos 100000)
   day-range zero h = day-first
@@ -101,3 +99,10 @@ module _ (w : List ℤ) (l : lawful w ≡ true) where
       let o : day w i ⩽ day w j = rw e at (days-in-order i (j - i) (omega arith)) in
       let ρ = day w i ∷ day w j ∷ offset w 0 ∷ offset w i ∷ offset w j ∷ pos i ∷ pos j ∷ [] in
       ⇑ ρ (search ring depth 9) (omega (arith, ⇓ ρ o (search ring), ⇓ ρ (offset-is i (omega arith)) (search ring), ⇓ ρ (offset-is j k) (search ring)))
+
+  -- a day and a second at least lie between two moments
+  pub moment-later : (i : ℕ) → suc i < entries w → holdsFrom w i +ℤ pos 86401000 ⩽ holdsFrom w (suc i)
+  unfolding holdsFrom
+  moment-later i h =
+      let ρ = day w i ∷ day w (suc i) ∷ offset w i ∷ offset w (suc i) ∷ [] in
+      ⇑ ρ (search ring depth 9) (omega (arith, ⇓ ρ (day-rises i h) (search ring), ⇓ ρ (offset-next i h) (search ring)))

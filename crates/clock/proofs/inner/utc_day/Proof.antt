@@ -1,0 +1,14 @@
+-- `clock::inner::utc_day` meets its contract. Assumes nothing.
+use borrow.Author.Needs.{needs}
+use mir.Facts.{toZ-ofZ}
+use Rattle.clock.proofs.inner.utc_day.Statement.{statement}
+use Rattle.clock.proofs.inner.utc_day.Tie as tie
+
+in-range-requires : tie.Need-in-range-requires
+in-range-requires c κs = search needs
+
+returns : tie.Need-returns
+returns c = rw (toZ-ofZ (c .before .fits .day)) at (c .in-range .ensures)
+
+pub utc-day-spec : {M : Type 1} → statement M
+utc-day-spec = tie.close (tie.spec in-range-requires returns)
