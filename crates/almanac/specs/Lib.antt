@@ -1,0 +1,5 @@
+pub mod Content
+pub mod Fields
+pub mod Layout
+pub mod theory
+pub mod Theorems
