@@ -71,11 +71,11 @@ module _ {c : List ℤ} (r : InRange c) where
       value-near-exact {x} h = near S (λ (n : ℕ). coefficient c n) x (omega arith) (h .within) allowance (weights-small r H long fast)
 
       -- the same, each side by itself
-      pub value-under : {x : ℤ} → Within S x → divisor *ℤ value c x ≺ exact c x +ℤ pos 32 *ℤ divisor
-      value-under {x} h = let ρ = divisor ∷ value c x ∷ exact c x ∷ [] in ⇑ ρ (search ring depth 9) (omega (arith, ⇓ ρ (abs-below (divisor *ℤ value c x -ℤ exact c x) (pos 32 *ℤ divisor) (value-near-exact h)) (search ring depth 9)))
+      pub value-under : {x : ℤ} → Within S x → divisor *ℤ value c x ≺ exact c x +ℤ pos allowance *ℤ divisor
+      value-under {x} h = let ρ = divisor ∷ value c x ∷ exact c x ∷ [] in ⇑ ρ (search ring depth 9) (omega (arith, ⇓ ρ (abs-below (divisor *ℤ value c x -ℤ exact c x) (pos allowance *ℤ divisor) (value-near-exact h)) (search ring depth 9)))
 
-      pub value-over : {x : ℤ} → Within S x → exact c x ≺ divisor *ℤ value c x +ℤ pos 32 *ℤ divisor
-      value-over {x} h = let ρ = divisor ∷ value c x ∷ exact c x ∷ [] in ⇑ ρ (search ring depth 9) (omega (arith, ⇓ ρ (abs-above (divisor *ℤ value c x -ℤ exact c x) (pos 32 *ℤ divisor) (value-near-exact h)) (search ring depth 9)))
+      pub value-over : {x : ℤ} → Within S x → exact c x ≺ divisor *ℤ value c x +ℤ pos allowance *ℤ divisor
+      value-over {x} h = let ρ = divisor ∷ value c x ∷ exact c x ∷ [] in ⇑ ρ (search ring depth 9) (omega (arith, ⇓ ρ (abs-above (divisor *ℤ value c x -ℤ exact c x) (pos allowance *ℤ divisor) (value-near-exact h)) (search ring depth 9)))
 
       module _ (q : ℕ) (step : q * H ≡ S) {x : ℤ} (h : Within S x) (k : Within S (x +ℤ pos q)) where
         -- from one second to the next the value rises by at least 37 units

@@ -1,7 +1,7 @@
 -- Document 01's starred example of the clock, and what its numbers and orders are, each a computed fact on both sides, and all of them checked at once.
 -- Assumes nothing.
 use Prim.Native.Nat.{ℕ, zero, suc, _^_, _-_}
-use mathlib.Core.Bool.{Bool, false, _&&_}
+use mathlib.Core.Bool.{Bool, false, not, _&&_}
 use mathlib.Core.List.{List, [], _∷_}
 use lib.Dec.{T, eqb}
 use lib.IntN.{ℤ, pos, negsuc}
@@ -13,9 +13,9 @@ use Rattle.whole.specs.Below.{every, lastBelow}
 use Rattle.times.specs.declared.Day.{Day}
 use Rattle.times.specs.declared.Second.{Second}
 use Rattle.times.specs.declared.Milli.{Milli}
-use Rattle.dates.specs.Calendar.{leapYear, leapYearsTo, newYear, monthLengths, guess, yearOf, monthsOver, dateInYear, dateFor}
+use Rattle.dates.specs.Calendar.{leapYear, leapYearsTo, newYear, monthLengths, yearOrNext, yearOf, monthsOver, dateInYear, dateFor}
 use Rattle.clock.specs.declared.ShownTime.{ShownTime}
-use Rattle.clock.specs.Leap.{firstEntry, nextEntry, goodEntry, leapLawful, holdsFrom, holds, entryUsed}
+use Rattle.clock.specs.Leap.{firstEntry, nextEntry, goodEntry, wholePairs, leapLawful, holdsFrom, holds, entryUsed}
 use Rattle.clock.specs.Clock.{convertible, tai, early, localMilli, reading, milliIn, dayOfMilli, shownOfMilli, dayIn, shownIn}
 use Rattle.clock.specs.Answers.{leapJudged, clockJudged, milliOf, dayOfSecond, shownOf}
 
@@ -59,7 +59,7 @@ abbrev unlawful : List ℤ
 unlawful = pos 0 ∷ pos 1001 ∷ []
 
 unfoldable pub examples : List Bool
-unfolding leapYear leapYearsTo newYear monthLengths guess yearOf monthsOver dateInYear dateFor floorDiv floorMod firstEntry nextEntry goodEntry every leapLawful holdsFrom holds lastBelow entryUsed convertible tai early localMilli reading milliIn dayOfMilli shownOfMilli dayIn shownIn leapJudged clockJudged milliOf dayOfSecond shownOf
+unfolding leapYear leapYearsTo newYear monthLengths yearOrNext yearOf monthsOver dateInYear dateFor floorDiv floorMod firstEntry nextEntry goodEntry every wholePairs leapLawful holdsFrom holds lastBelow entryUsed convertible tai early localMilli reading milliIn dayOfMilli shownOfMilli dayIn shownIn leapJudged clockJudged milliOf dayOfSecond shownOf
 examples =
     -- document 01's starred example, and the first second of 2000
     isDay (dayOfSecond table (second (negsuc 836106))) (negsuc 9)
@@ -70,6 +70,12 @@ examples =
     ∷ isShown (shownOf longer (second (pos 189388864))) 2006 1 1 7 59 59 816
     ∷ isShown (shownOf longer (second (pos 189388865))) 2006 1 1 8 0 0 816
     ∷ isShown (shownOf longer (second (pos 189388866))) 2006 1 1 8 0 0 816
+    ∷ isDay (dayOfSecond longer (second (pos 189388864))) (pos 2192)
+    ∷ isDay (dayOfSecond longer (second (pos 189388865))) (pos 2192)
+    ∷ isDay (dayOfSecond longer (second (pos 189388866))) (pos 2192)
+    -- the entry used, on both sides of the millisecond from which one holds
+    ∷ eqb (entryUsed longer (pos 189388832999)) 0
+    ∷ eqb (entryUsed longer (pos 189388833000)) 1
     -- the conversion range, -10,000,000,000 to 16,000,000,000
     ∷ isMilli (milliOf earliest (second (negsuc 9999999999))) (negsuc 9999971232183)
     ∷ isRefused (milliOf earliest (second (negsuc 10000000000))) 6
@@ -77,10 +83,12 @@ examples =
     ∷ isRefused (milliOf earliest (second (pos 16000000001))) 6
     ∷ isRefused (dayOfSecond table (second (pos 16000000001))) 6
     ∷ isRefused (dayOfSecond table (second (negsuc 10000000000))) 6
-    -- 7, on both sides of the first entry: it holds from TAI second 32 of 2000-01-01, and 65 TDB seconds are 32.816 s of TAI
-    ∷ isRefused (dayOfSecond table (second (negsuc 32000000))) 7
+    -- 7, on both sides of the first entry: this one holds from TAI second 32, and 65 TDB seconds are 32.816 s of TAI
+    ∷ not (holds (pos 0 ∷ pos 32 ∷ []) (pos 31999) 0)
+    ∷ holds (pos 0 ∷ pos 32 ∷ []) (pos 32000) 0
     ∷ isRefused (dayOfSecond (pos 0 ∷ pos 32 ∷ []) (second (pos 64))) 7
     ∷ isDay (dayOfSecond (pos 0 ∷ pos 32 ∷ []) (second (pos 65))) (pos 0)
+    ∷ isRefused (dayOfSecond table (second (negsuc 32000000))) 7
     -- 1 before 6, 1 before 7, 6 before 7
     ∷ isRefused (dayOfSecond unlawful (second (pos 16000000001))) 1
     ∷ isRefused (dayOfSecond unlawful (second (pos 0))) 1

@@ -37,9 +37,13 @@ unfoldable pub goodEntry : List ℤ → ℕ → Bool
 goodEntry leap zero = firstEntry (day leap 0) (offset leap 0)
 goodEntry leap (suc i) = nextEntry (day leap i) (offset leap i) (day leap (suc i)) (offset leap (suc i))
 
--- 1 to 64 entries in whole pairs, each of them good
+-- 1 to 64 entries in whole pairs, by the number of words
+unfoldable pub wholePairs : ℕ → Bool
+wholePairs words = eqb (words % 2) 0 && (leb 2 words && leb words 128)
+
+-- and each of them good
 unfoldable pub leapLawful : List ℤ → Bool
-leapLawful leap = eqb (length leap % 2) 0 && (leb 2 (length leap) && (leb (length leap) 128 && every (goodEntry leap) (entries leap)))
+leapLawful leap = wholePairs (length leap) && every (goodEntry leap) (entries leap)
 
 -- ---- the entry used
 -- the TAI millisecond from which entry i holds

@@ -1,5 +1,5 @@
 -- Two results that a promise of this crate allows are the same result. Assumes nothing.
-use mathlib.Core.Path.{_≡_, refl, sym, ap}
+use mathlib.Core.Path.{_≡_, sym, ap}
 use mathlib.Core.List.{List}
 use lib.IntN.{ℤ}
 use Rattle.refusals.specs.declared.Check.{Check}

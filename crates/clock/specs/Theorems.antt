@@ -1,7 +1,7 @@
 -- The laws of the clock, over every lawful table: days never go back as seconds go on (in every zone), an inserted second keeps the day, every
 -- converted day has a date, and once the first entry holds it goes on holding. Assumes nothing.
 use Prim.Native.Nat.{ℕ, suc, _<_}
-use mathlib.Core.Path.{_≡_, sym, ap, _∙_}
+use mathlib.Core.Path.{_≡_, sym, _∙_}
 use mathlib.Core.Bool.{true, false}
 use mathlib.Core.List.{List}
 use lib.IntN.{ℤ, pos, _+ℤ_, _-ℤ_}
@@ -11,8 +11,8 @@ use Rattle.refusals.specs.Verdict.{answered}
 use Rattle.times.specs.declared.Day.{Day}
 use Rattle.times.specs.declared.Second.{Second}
 use Rattle.dates.specs.Answers.{hasDate}
-use Rattle.clock.specs.Leap.{leapLawful, entries, day, offset, holdsFrom, entryUsed}
-use Rattle.clock.specs.Clock.{utc8, convertible, tai, early, localMilli, reading, milliIn, dayOfMilli, dayIn}
+use Rattle.clock.specs.Leap.{leapLawful, entries, holdsFrom, entryUsed}
+use Rattle.clock.specs.Clock.{utc8, convertible, tai, early, reading, milliIn, dayOfMilli, dayIn}
 use Rattle.clock.specs.Answers.{clockJudged, dayOfSecond}
 use Rattle.clock.specs.theory.Used.{used}
 use Rattle.clock.specs.theory.Sizes.{reading-has-date}

@@ -17,20 +17,23 @@ ghost use Rattle.whole.specs.Ranges.{Within};
 ghost use Rattle.whole.specs.Tests.{isExactly};
 ghost use Rattle.refusals.specs.Verdict.{paperCheck};
 ghost use Rattle.dates.specs.Answers.{hasDate};
-ghost use Rattle.clock.specs.Leap.{entries, offset, utcDay, firstEntry, nextEntry, goodEntry, leapLawful, holdsFrom, holds, entryUsed};
+ghost use Rattle.clock.specs.Leap.{entries, offset, utcDay, firstEntry, nextEntry, goodEntry, wholePairs, leapLawful, holdsFrom, holds, entryUsed};
 ghost use Rattle.clock.specs.Clock.{convertible, tai, early, localMilli, reading, milliIn, dayIn, shownIn, dayOfMilli, shownOfMilli, Readable};
 ghost use Rattle.clock.specs.Answers.{clockJudged};
 
+// A TAI millisecond, counted from 2000-01-01 00:00 TAI. It does not leave this module.
+struct Tai(i64);
+
 // Whether a day may stand in a table.
-fn utc_day(day: i64) -> bool
-    ensures { λ r. ⌜ r ≡ utcDay day ⌝ }
+fn utc_day(day: Day) -> bool
+    ensures { λ r. ⌜ r ≡ utcDay (day .0) ⌝ }
 {
-    in_range(-120000, 100000, day)
+    in_range(-120000, 100000, day.0)
 }
 
 // Whether (day, offset) may be the first entry.
-fn first_entry(day: i64, offset: i64) -> bool
-    ensures { λ r. ⌜ r ≡ firstEntry day offset ⌝ }
+fn first_entry(day: Day, offset: i64) -> bool
+    ensures { λ r. ⌜ r ≡ firstEntry (day .0) offset ⌝ }
 {
     if utc_day(day) {
         return in_range(0, 1000, offset);
@@ -38,20 +41,20 @@ fn first_entry(day: i64, offset: i64) -> bool
     false
 }
 
-// Whether entry (day, offset) may follow entry (d, o). The offsets are compared before one is taken off, so that nothing overflows.
-fn next_entry(d: i64, o: i64, day: i64, offset: i64) -> bool
-    ensures { λ r. ⌜ r ≡ nextEntry d o day offset ⌝ }
+// Whether entry (day, offset) may follow entry (d, o).
+fn next_entry(d: Day, o: i64, day: Day, offset: i64) -> bool
+    ensures { λ r. ⌜ r ≡ nextEntry (d .0) o (day .0) offset ⌝ }
 {
     if !utc_day(day) {
         return false;
     }
-    if day <= d {
+    if day.0 <= d.0 {
         return false;
     }
     one_more(o, offset)
 }
 
-// Whether an offset is one more than the one before it.
+// Whether an offset is one more than the one before it. They are compared before one is taken off, so that nothing overflows.
 fn one_more(o: i64, offset: i64) -> bool
     ensures { λ r. ⌜ r ≡ isExactly (o +ℤ pos 1) offset ⌝ }
 {
@@ -67,33 +70,47 @@ fn good_after(leap: &[i64], i: usize) -> bool
     ensures { λ r. ⌜ r ≡ goodEntry (now (leap .entry)) (suc i) ⌝ }
 {
     next_entry(
-        leap[2 * i],
+        Day(leap[2 * i]),
         leap[2 * i + 1],
-        leap[2 * i + 2],
+        Day(leap[2 * i + 2]),
         leap[2 * i + 3],
     )
 }
 
-// Whether a leap table keeps its rule.
-pub fn leap_lawful(leap: &[i64]) -> bool
-    ensures { λ r. ⌜ r ≡ leapLawful (now (leap .entry)) ⌝ }
+// Whether entry i is good.
+fn good_entry(leap: &[i64], i: usize) -> bool
+    requires { ⌜ i < entries (now leap) ⌝ }
+    ensures { λ r. ⌜ r ≡ goodEntry (now (leap .entry)) i ⌝ }
 {
-    let words = leap.len();
+    if i == 0 {
+        return first_entry(Day(leap[0]), leap[1]);
+    }
+    good_after(leap, i - 1)
+}
+
+// Whether so many words may be a table: 1 to 64 entries in whole pairs.
+fn whole_pairs(words: usize) -> bool
+    ensures { λ r. ⌜ r ≡ wholePairs words ⌝ }
+{
     if 0 < words % 2 {
         return false;
     }
     if words < 2 {
         return false;
     }
-    if 128 < words {
-        return false;
-    }
-    if !first_entry(leap[0], leap[1]) {
+    words <= 128
+}
+
+// Whether a leap table keeps its rule.
+pub fn leap_lawful(leap: &[i64]) -> bool
+    ensures { λ r. ⌜ r ≡ leapLawful (now (leap .entry)) ⌝ }
+{
+    if !whole_pairs(leap.len()) {
         return false;
     }
     let mut i: usize = 0;
-    while 2 * i + 3 < words {
-        if !good_after(leap, i) {
+    while i < leap.len() / 2 {
+        if !good_entry(leap, i) {
             return false;
         }
         i += 1;
@@ -101,38 +118,40 @@ pub fn leap_lawful(leap: &[i64]) -> bool
     true
 }
 
-// The TAI millisecond of a day and an offset, the words of an entry.
-fn moment_of(day: i64, offset: i64) -> i64
-    requires { ⌜ Within 120000 day ⌝ }
+// The TAI millisecond at which a UTC day begins under an offset.
+fn moment_of(day: Day, offset: i64) -> Tai
+    requires { ⌜ Within 120000 (day .0) ⌝ }
     requires { ⌜ Within 2000 offset ⌝ }
-    ensures { λ r. ⌜ r ≡ pos 1000 *ℤ (pos 86400 *ℤ day +ℤ offset) ⌝ }
+    ensures { λ r. ⌜ r .0 ≡ pos 1000 *ℤ (pos 86400 *ℤ day .0 +ℤ offset) ⌝ }
 {
-    1000 * (86400 * day + offset)
+    let days = day.0;
+    Tai(1000 * (86400 * days + offset))
 }
 
 // The TAI millisecond from which entry i holds.
-fn holds_from(leap: &[i64], i: usize) -> i64
+fn holds_from(leap: &[i64], i: usize) -> Tai
     requires { ⌜ leapLawful (now leap) ≡ true ⌝ }
     requires { ⌜ i < entries (now leap) ⌝ }
-    ensures { λ r. ⌜ r ≡ holdsFrom (now (leap .entry)) i ⌝ }
+    ensures { λ r. ⌜ r .0 ≡ holdsFrom (now (leap .entry)) i ⌝ }
 {
-    moment_of(leap[2 * i], leap[2 * i + 1])
+    moment_of(Day(leap[2 * i]), leap[2 * i + 1])
 }
 
 // Whether entry i holds by TAI millisecond t.
-fn holds(leap: &[i64], t: i64, i: usize) -> bool
+fn holds(leap: &[i64], t: Tai, i: usize) -> bool
     requires { ⌜ leapLawful (now leap) ≡ true ⌝ }
     requires { ⌜ i < entries (now leap) ⌝ }
-    ensures { λ r. ⌜ r ≡ holds (now (leap .entry)) t i ⌝ }
+    ensures { λ r. ⌜ r ≡ holds (now (leap .entry)) (t .0) i ⌝ }
 {
-    holds_from(leap, i) <= t
+    let from = holds_from(leap, i);
+    from.0 <= t.0
 }
 
 // The entry used at TAI millisecond t, by bisection: `low` holds by then, and nothing from `high` on does.
-fn entry_used(leap: &[i64], t: i64) -> usize
+fn entry_used(leap: &[i64], t: Tai) -> usize
     requires { ⌜ leapLawful (now leap) ≡ true ⌝ }
-    requires { ⌜ holds (now leap) t 0 ≡ true ⌝ }
-    ensures { λ r. ⌜ r ≡ entryUsed (now (leap .entry)) t ⌝ }
+    requires { ⌜ holds (now leap) (t .0) 0 ≡ true ⌝ }
+    ensures { λ r. ⌜ r ≡ entryUsed (now (leap .entry)) (t .0) ⌝ }
 {
     let mut low: usize = 0;
     let mut high = leap.len() / 2;
@@ -163,12 +182,12 @@ pub fn convertible(second: Second) -> bool
 }
 
 // The TAI millisecond of a TDB second.
-fn tai_of(second: Second) -> i64
+fn tai_of(second: Second) -> Tai
     requires { ⌜ convertible second ≡ true ⌝ }
-    ensures { λ r. ⌜ r ≡ tai second ⌝ }
+    ensures { λ r. ⌜ r .0 ≡ tai second ⌝ }
 {
     let s = second.0;
-    1000 * s - 32184
+    Tai(1000 * s - 32184)
 }
 
 // Whether a second lies before the first leap entry.
@@ -197,13 +216,14 @@ pub fn judge(leap: &[i64], second: Second) -> Check
 }
 
 // The local millisecond of a TAI millisecond under an offset.
-fn local_milli(t: i64, offset: i64, zone: i64) -> Milli
-    requires { ⌜ Within 20000000000000 t ⌝ }
+fn local_milli(t: Tai, offset: i64, zone: i64) -> Milli
+    requires { ⌜ Within 20000000000000 (t .0) ⌝ }
     requires { ⌜ Within 2000 offset ⌝ }
     requires { ⌜ Within 1000 zone ⌝ }
-    ensures { λ r. ⌜ r ≡ localMilli t offset zone ⌝ }
+    ensures { λ r. ⌜ r ≡ localMilli (t .0) offset zone ⌝ }
 {
-    Milli(t - 1000 * offset + 60000 * zone)
+    let millis = t.0;
+    Milli(millis - 1000 * offset + 60000 * zone)
 }
 
 // What the clock reads at a second.

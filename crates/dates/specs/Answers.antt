@@ -2,7 +2,7 @@
 -- Assumes nothing: these are definitions.
 use mathlib.Core.Bool.{Bool, not, _&&_}
 use lib.IntN.{ℤ, pos, negsuc}
-use lib.Signed.{leZ}
+use Rattle.whole.specs.Tests.{inRange}
 use Rattle.refusals.specs.Verdict.{Verdict, answered, refusal, refuseWhen, _before_}
 use Rattle.dates.specs.declared.Date.{Date}
 use Rattle.times.specs.declared.Day.{Day}
@@ -14,7 +14,7 @@ use Rattle.dates.specs.Calendar.{valid, dayNumber, dateFor}
 
 -- days -150,000 to 200,000 have dates
 unfoldable pub hasDate : ℤ → Bool
-hasDate n = leZ (negsuc 149999) n && leZ n (pos 200000)
+hasDate n = inRange (negsuc 149999) (pos 200000) n
 
 -- the date of a day; 6 when the day is outside its range
 unfoldable pub dateOf : Day → Verdict Date

@@ -4,10 +4,11 @@ use Prim.Native.Nat.{ℕ, suc, _+_, _-_}
 use mathlib.Core.Bool.{Bool, not, cond, _&&_, _||_}
 use mathlib.Core.List.{List, [], _∷_}
 use lib.IntN.{ℤ, pos, natAbs, _+ℤ_, _-ℤ_, _*ℤ_}
-use lib.Signed.{leZ, ltZ}
+use lib.Signed.{ltZ}
 use lib.ListN.{getD, take}
 use lib.Dec.{eqb, ltb}
 use Rattle.whole.specs.Floor.{floorDiv, floorMod}
+use Rattle.whole.specs.Tests.{inRange}
 use Rattle.dates.specs.declared.Date.{Date}
 
 -- ---- years
@@ -35,24 +36,25 @@ monthLengths leap = 31 ∷ cond leap 29 28 ∷ 31 ∷ 30 ∷ 31 ∷ 30 ∷ 31 �
 abbrev pub lengthsIn : ℤ → List ℕ
 lengthsIn y = monthLengths (leapYear y)
 
-abbrev pub sum : List ℕ → ℕ
-sum [] = 0
-sum (n ∷ ns) = n + sum ns
+-- the days of so many months
+abbrev pub total : List ℕ → ℕ
+total [] = 0
+total (n ∷ ns) = n + total ns
 
 abbrev pub yearLength : ℤ → ℕ
-yearLength y = sum (lengthsIn y)
+yearLength y = total (lengthsIn y)
 
 -- of month 1 to 12 of a year: its length, and the days of that year before it
 unfoldable pub monthLength : ℤ → ℤ → ℕ
 monthLength y m = getD (lengthsIn y) (natAbs m - 1) 0
 
 unfoldable pub daysBefore : ℤ → ℤ → ℕ
-daysBefore y m = sum (take (natAbs m - 1) (lengthsIn y))
+daysBefore y m = total (take (natAbs m - 1) (lengthsIn y))
 
 -- ---- dates
 -- there is such a date
 unfoldable pub validDate : ℤ → ℤ → ℤ → Bool
-validDate y m d = leZ (pos 1) m && (leZ m (pos 12) && (leZ (pos 1) d && leZ d (pos (monthLength y m))))
+validDate y m d = inRange (pos 1) (pos 12) m && inRange (pos 1) (pos (monthLength y m)) d
 
 -- the day number of a date
 unfoldable pub numberOf : ℤ → ℤ → ℤ → ℤ
@@ -64,12 +66,13 @@ valid d = validDate (d .year) (d .month) (d .day)
 abbrev pub dayNumber : Date → ℤ
 dayNumber d = numberOf (d .year) (d .month) (d .day)
 
--- The year of day n: 400 years have 146,097 days, so this guess is the year or the one after it (`Years.year-found`).
-unfoldable pub guess : ℤ → ℤ
-guess n = pos 2000 +ℤ floorDiv (pos 400 *ℤ n +ℤ pos 396) 146097
+-- 400 years have 146,097 days, so this is the year of day n or the one after it (`year-found`)
+unfoldable pub yearOrNext : ℤ → ℤ
+yearOrNext n = pos 2000 +ℤ floorDiv (pos 400 *ℤ n +ℤ pos 396) 146097
 
+-- the year of day n
 unfoldable pub yearOf : ℤ → ℤ
-yearOf n = cond (ltZ n (newYear (guess n))) (guess n -ℤ pos 1) (guess n)
+yearOf n = cond (ltZ n (newYear (yearOrNext n))) (yearOrNext n -ℤ pos 1) (yearOrNext n)
 
 -- how many months of these lengths are over when k days are
 unfoldable pub monthsOver : List ℕ → ℕ → ℕ
@@ -80,7 +83,7 @@ monthsOver (l ∷ ls) k = cond (ltb k l) 0 (suc (monthsOver ls (k - l)))
 unfoldable pub dateInYear : ℤ → ℕ → Date
 dateInYear y k =
     let over = monthsOver (lengthsIn y) k in
-    record { year = y; month = pos (suc over); day = pos (suc (k - sum (take over (lengthsIn y)))) }
+    record { year = y; month = pos (suc over); day = pos (suc (k - total (take over (lengthsIn y)))) }
 
 -- the date of day n
 unfoldable pub dateFor : ℤ → Date

@@ -1,4 +1,6 @@
 pub mod Calendar
 pub mod Answers
 pub mod Examples
+pub mod Theorems
 pub mod OneResult
+pub mod theory

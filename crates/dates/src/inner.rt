@@ -1,71 +1,85 @@
 // The parts of the two entry points. Those that ask something of their arguments are for callers that have judged them.
 use super::Date;
 use times::Day;
-use whole::inner::add;
 use whole::inner::count;
 use whole::inner::distance;
 use whole::inner::floor_div;
 use whole::inner::floor_mod;
-use whole::inner::multiply;
+use whole::inner::in_range;
 use whole::inner::signed;
-use whole::inner::subtract;
 ghost use mathlib.Core.Path.{_≡_};
 ghost use mathlib.Core.Bool.{true};
 ghost use Prim.Native.Nat.{_<_, _≤_};
-ghost use lib.IntN.{pos};
-ghost use lib.Signed.{_≤ℤ_};
+ghost use lib.IntN.{pos, natAbs, _+ℤ_, _-ℤ_};
+ghost use lib.Signed.{_≤ℤ_, _<ℤ_};
 ghost use lib.ListN.{length, take};
 ghost use Rattle.whole.specs.Ranges.{Within};
-ghost use Rattle.dates.specs.Calendar.{leapYear, leapYearsTo, newYear, yearOf, monthLengths, sum, yearLength, monthLength, daysBefore, monthsOver, dateInYear, dateFor, valid, dayNumber, guess};
+ghost use Rattle.dates.specs.Calendar.{divides, leapYear, leapYearsTo, newYear, yearOrNext, yearOf, monthLengths, lengthsIn, total, yearLength, monthLength, daysBefore, monthsOver, dateInYear, dateFor, valid, dayNumber};
 ghost use Rattle.dates.specs.Answers.{hasDate};
 
 // Whether a day lies in the range of days that have dates.
 pub fn has_date(day: Day) -> bool
     ensures { λ r. ⌜ r ≡ hasDate (day .0) ⌝ }
 {
-    let n = day.0;
-    if n < -150000 {
-        return false;
-    }
-    if 200000 < n {
-        return false;
-    }
-    true
+    in_range(-150000, 200000, day.0)
+}
+
+// Whether m divides y.
+fn divides(m: i64, y: i64) -> bool
+    requires { ⌜ pos 0 <ℤ m ⌝ }
+    ensures { λ r. ⌜ r ≡ divides (natAbs m) y ⌝ }
+{
+    floor_mod(y, m) < 1
 }
 
 // Every fourth year, but of the full centuries only every fourth.
 fn leap_year(y: i64) -> bool
     ensures { λ r. ⌜ r ≡ leapYear y ⌝ }
 {
-    if 0 < floor_mod(y, 4) {
+    if !divides(4, y) {
         return false;
     }
-    if 0 < floor_mod(y, 100) {
+    if !divides(100, y) {
         return true;
     }
-    if 0 < floor_mod(y, 400) {
-        return false;
-    }
-    true
+    divides(400, y)
 }
 
 fn leap_years_to(y: i64) -> i64
     requires { ⌜ Within 2000000000 y ⌝ }
     ensures { λ r. ⌜ r ≡ leapYearsTo y ⌝ }
 {
-    add(
-        subtract(floor_div(y, 4), floor_div(y, 100)),
-        floor_div(y, 400),
-    )
+    floor_div(y, 4) - floor_div(y, 100) + floor_div(y, 400)
 }
 
-// The day number of the first of January.
-fn new_year(y: i64) -> i64
+// The day of the first of January.
+fn new_year(y: i64) -> Day
     requires { ⌜ Within 1000000000 y ⌝ }
-    ensures { λ r. ⌜ r ≡ newYear y ⌝ }
+    ensures { λ r. ⌜ r .0 ≡ newYear y ⌝ }
 {
-    let whole = multiply(365, subtract(y, 2000));
-    subtract(add(whole, leap_years_to(subtract(y, 1))), 484)
+    Day(365 * (y - 2000) + leap_years_to(y - 1) - 484)
+}
+
+// The year of a day, or the one after it.
+fn year_or_next(day: Day) -> i64
+    requires { ⌜ Within 200000 (day .0) ⌝ }
+    ensures { λ r. ⌜ r ≡ yearOrNext (day .0) ⌝ }
+{
+    let n = day.0;
+    2000 + floor_div(400 * n + 396, 146097)
+}
+
+// The year of a day.
+fn year_of(day: Day) -> i64
+    requires { ⌜ Within 200000 (day .0) ⌝ }
+    ensures { λ r. ⌜ r ≡ yearOf (day .0) ⌝ }
+{
+    let near = year_or_next(day);
+    let first = new_year(near);
+    if day.0 < first.0 {
+        return near - 1;
+    }
+    near
 }
 
 fn month_lengths(leap: bool) -> [usize; 12]
@@ -75,16 +89,11 @@ fn month_lengths(leap: bool) -> [usize; 12]
     [31, february, 31, 30, 31, 30, 31, 31, 30, 31, 30, 31]
 }
 
-// The year of a day: the guess is the year or the one after it.
-fn year_of(n: i64) -> i64
-    requires { ⌜ Within 200000 n ⌝ }
-    ensures { λ r. ⌜ r ≡ yearOf n ⌝ }
+// The lengths of the months of a year.
+fn lengths_in(y: i64) -> [usize; 12]
+    ensures { λ r. ⌜ r ≡ lengthsIn y ⌝ }
 {
-    let guess = add(2000, floor_div(add(multiply(400, n), 396), 146097));
-    if n < new_year(guess) {
-        return subtract(guess, 1);
-    }
-    guess
+    month_lengths(leap_year(y))
 }
 
 // How many months of these lengths are over when k days are.
@@ -107,8 +116,8 @@ fn months_over(lengths: &[usize], k: usize) -> usize
 // The days of the first so many months.
 fn days_of(lengths: &[usize], months: usize) -> usize
     requires { ⌜ months ≤ length (now lengths) ⌝ }
-    requires { ⌜ sum (now lengths) < 1000 ⌝ }
-    ensures { λ r. ⌜ r ≡ sum (take months (now (lengths .entry))) ⌝ }
+    requires { ⌜ total (now lengths) < 1000 ⌝ }
+    ensures { λ r. ⌜ r ≡ total (take months (now (lengths .entry))) ⌝ }
 {
     let mut days: usize = 0;
     let mut i: usize = 0;
@@ -124,7 +133,7 @@ fn date_in_year(y: i64, k: usize) -> Date
     requires { ⌜ k < yearLength y ⌝ }
     ensures { λ r. ⌜ r ≡ dateInYear y k ⌝ }
 {
-    let lengths = month_lengths(leap_year(y));
+    let lengths = lengths_in(y);
     let over = months_over(&lengths, k);
     let before = days_of(&lengths, over);
     Date {
@@ -139,10 +148,9 @@ pub fn date_for(day: Day) -> Date
     requires { ⌜ hasDate (day .0) ≡ true ⌝ }
     ensures { λ r. ⌜ r ≡ dateFor (day .0) ⌝ }
 {
-    let n = day.0;
-    let year = year_of(n);
-    let over = distance(new_year(year), n);
-    date_in_year(year, over)
+    let year = year_of(day);
+    let first = new_year(year);
+    date_in_year(year, distance(first.0, day.0))
 }
 
 // The length of month 1 to 12 of a year.
@@ -150,7 +158,7 @@ fn month_length(y: i64, m: i64) -> i64
     requires { ⌜ (pos 1 ≤ℤ m) × (m ≤ℤ pos 12) ⌝ }
     ensures { λ r. ⌜ r ≡ pos (monthLength y m) ⌝ }
 {
-    let lengths = month_lengths(leap_year(y));
+    let lengths = lengths_in(y);
     let i = count(m) - 1;
     signed(lengths[i])
 }
@@ -159,22 +167,11 @@ fn month_length(y: i64, m: i64) -> i64
 pub fn valid(date: Date) -> bool
     ensures { λ r. ⌜ r ≡ valid date ⌝ }
 {
-    let year = date.year;
     let month = date.month;
-    let day = date.day;
-    if month < 1 {
+    if !in_range(1, 12, month) {
         return false;
     }
-    if 12 < month {
-        return false;
-    }
-    if day < 1 {
-        return false;
-    }
-    if month_length(year, month) < day {
-        return false;
-    }
-    true
+    in_range(1, month_length(date.year, month), date.day)
 }
 
 // The days of a year before month 1 to 12.
@@ -182,9 +179,20 @@ fn days_before(y: i64, m: i64) -> i64
     requires { ⌜ (pos 1 ≤ℤ m) × (m ≤ℤ pos 12) ⌝ }
     ensures { λ r. ⌜ r ≡ pos (daysBefore y m) ⌝ }
 {
-    let lengths = month_lengths(leap_year(y));
+    let lengths = lengths_in(y);
     let i = count(m) - 1;
     signed(days_of(&lengths, i))
+}
+
+// The day of a year whose first day and whose days before the month are given.
+fn day_after(first: Day, before: i64, day: i64) -> Day
+    requires { ⌜ Within 1000000000000 (first .0) ⌝ }
+    requires { ⌜ Within 400 before ⌝ }
+    requires { ⌜ Within 400 day ⌝ }
+    ensures { λ r. ⌜ r .0 ≡ first .0 +ℤ before +ℤ day -ℤ pos 1 ⌝ }
+{
+    let start = first.0;
+    Day(start + before + day - 1)
 }
 
 // The day of a valid date whose year is no larger than a thousand million.
@@ -193,9 +201,6 @@ pub fn day_number(date: Date) -> Day
     requires { ⌜ Within 1000000000 (date .year) ⌝ }
     ensures { λ r. ⌜ r .0 ≡ dayNumber date ⌝ }
 {
-    let year = date.year;
-    let month = date.month;
-    let day = date.day;
-    let before = days_before(year, month);
-    Day(subtract(add(add(new_year(year), before), day), 1))
+    let first = new_year(date.year);
+    day_after(first, days_before(date.year, date.month), date.day)
 }

@@ -2,5 +2,6 @@ pub mod Layout
 pub mod Parts
 pub mod Listing
 pub mod Lines
-pub mod Nth
-pub mod Ready
+pub mod Examples
+pub mod OneResult
+pub mod theory

@@ -27,10 +27,7 @@ fn section_end(words: &[i64], at: usize, extra: usize, width: usize) -> EndAnswe
     requires { ⌜ (1 ≤ width) × (width ≤ 14) ⌝ }
     ensures { λ r. ⌜ paperEnd r ≡ sectionEnd (now (words .entry)) at extra width ⌝ }
 {
-    let broken = EndAnswer::Refused(Refusal {
-        number: 13,
-        segment: 0,
-    });
+    let broken = EndAnswer::Refused(refusals::LAYOUT);
     if words.len() <= at {
         return broken;
     }
@@ -62,10 +59,7 @@ pub fn find_places(words: &[i64]) -> PlacesAnswer
                 EndAnswer::Refused(r) => PlacesAnswer::Refused(r),
                 EndAnswer::At(end) => {
                     if end < words.len() {
-                        PlacesAnswer::Refused(Refusal {
-                            number: 13,
-                            segment: 0,
-                        })
+                        PlacesAnswer::Refused(refusals::LAYOUT)
                     } else {
                         PlacesAnswer::Found(Places { sun, moon })
                     }

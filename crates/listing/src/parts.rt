@@ -5,52 +5,22 @@ use crate::layout::PlacesAnswer;
 use crate::lines;
 use crate::lines::Line;
 use refusals::Check;
-use refusals::Refusal;
 use series::Body;
 use times::Second;
 ghost use mathlib.Core.Path.{_≡_};
 ghost use mathlib.Core.List.{[], _∷_};
 ghost use Rattle.text.specs.Text.{refusalLine};
-ghost use Rattle.listing.specs.Listing.{linesOf, linesOfWords, printed};
+ghost use Rattle.inputs.specs.Inputs.{inputs};
+ghost use Rattle.inputs.specs.Known.{Known};
+ghost use Rattle.listing.specs.Listing.{linesOf, listed, listedWords, printed};
 ghost use Prim.Native.Nat.{_+_, _<_, _≤_};
 ghost use lib.ListN.{length, getD};
-ghost use Rattle.series.specs.declared.Body.the-variants.{Sun, Moon};
+ghost use Rattle.series.specs.declared.Body.the-variants.{Sun};
+ghost use Rattle.series.specs.Series.{series};
 ghost use Rattle.marks.specs.Listed.{listedMarks};
-ghost use Rattle.listing.specs.Layout.{inputAt};
+ghost use Rattle.listing.specs.Layout.{inputsAt};
 ghost use Rattle.listing.specs.Lines.{lineText};
 ghost use Rattle.listing.specs.Parts.{partAnswer, partHeld};
-ghost use Rattle.listing.specs.Ready.{inputOf, Judged, Ready, texts};
-
-// Judges everything: the leap table (1), the Sun and the Moon (2 to 5), and that every mark lies after the first leap entry (7).
-pub fn judge(leap: &[i64], sunstart: Second, sun: &[i64], moonstart: Second, moon: &[i64]) -> Check
-    ensures { λ r. ⌜ Judged (inputOf (now (leap .entry)) (sunstart .0) (now (sun .entry)) (moonstart .0) (now (moon .entry))) r ⌝ }
-{
-    let leap_check = clock::judge_leap_table(leap);
-    if let Check::Refused(r) = leap_check {
-        return Check::Refused(r);
-    }
-    let sun_check = series::accept(Body::Sun, sunstart, sun);
-    if let Check::Refused(r) = sun_check {
-        return Check::Refused(r);
-    }
-    let moon_check = series::accept(Body::Moon, moonstart, moon);
-    if let Check::Refused(r) = moon_check {
-        return Check::Refused(r);
-    }
-    if !lines::all_held(Body::Sun, leap, sunstart, sun) {
-        return Check::Refused(Refusal {
-            number: 7,
-            segment: 0,
-        });
-    }
-    if !lines::all_held(Body::Moon, leap, moonstart, moon) {
-        return Check::Refused(Refusal {
-            number: 7,
-            segment: 0,
-        });
-    }
-    Check::Accepted
-}
 
 // Line i: the Sun's come first.
 fn line_at(
@@ -62,10 +32,10 @@ fn line_at(
     suns: usize,
     i: usize,
 ) -> Line
-    requires { ⌜ Ready (inputOf (now leap) (sunstart .0) (now sun) (moonstart .0) (now moon)) ⌝ }
-    requires { ⌜ suns ≡ length (listedMarks Sun (sunstart .0) (now sun)) ⌝ }
-    requires { ⌜ i < length (texts (inputOf (now leap) (sunstart .0) (now sun) (moonstart .0) (now moon))) ⌝ }
-    ensures { λ r. ⌜ getD (texts (inputOf (now (leap .entry)) (sunstart .0) (now (sun .entry)) (moonstart .0) (now (moon .entry)))) i [] ≡ lineText r ⌝ }
+    requires { ⌜ Known (inputs (now leap) (sunstart .0) (now sun) (moonstart .0) (now moon)) ⌝ }
+    requires { ⌜ suns ≡ length (listedMarks (series Sun (sunstart .0) (now sun))) ⌝ }
+    requires { ⌜ i < length (linesOf (inputs (now leap) (sunstart .0) (now sun) (moonstart .0) (now moon))) ⌝ }
+    ensures { λ r. ⌜ lineText r ≡ getD (linesOf (inputs (now (leap .entry)) (sunstart .0) (now (sun .entry)) (moonstart .0) (now (moon .entry)))) i [] ⌝ }
 {
     if i < suns {
         return lines::line_of(Body::Sun, leap, sunstart, sun, i);
@@ -83,9 +53,9 @@ pub fn put_lines(
     from: usize,
     room: &mut [u8],
 ) -> Part
-    requires { ⌜ Ready (inputOf (now leap) (sunstart .0) (now sun) (moonstart .0) (now moon)) ⌝ }
-    ensures { λ r. ⌜ r ≡ partAnswer (texts (inputOf (now (leap .entry)) (sunstart .0) (now (sun .entry)) (moonstart .0) (now (moon .entry)))) from (length (now (room .entry))) ⌝ }
-    ensures { λ r. ⌜ now (room .exit) ≡ partHeld (texts (inputOf (now (leap .entry)) (sunstart .0) (now (sun .entry)) (moonstart .0) (now (moon .entry)))) from (now (room .entry)) ⌝ }
+    requires { ⌜ Known (inputs (now leap) (sunstart .0) (now sun) (moonstart .0) (now moon)) ⌝ }
+    ensures { λ r. ⌜ r ≡ partAnswer (linesOf (inputs (now (leap .entry)) (sunstart .0) (now (sun .entry)) (moonstart .0) (now (moon .entry)))) from (length (now (room .entry))) ⌝ }
+    ensures { λ r. ⌜ now (room .exit) ≡ partHeld (linesOf (inputs (now (leap .entry)) (sunstart .0) (now (sun .entry)) (moonstart .0) (now (moon .entry)))) from (now (room .entry)) ⌝ }
 {
     let suns = marks::inner::count(Body::Sun, sunstart, sun);
     let moons = marks::inner::count(Body::Moon, moonstart, moon);
@@ -152,10 +122,10 @@ pub fn put_input(
     from: usize,
     room: &mut [u8],
 ) -> Part
-    ensures { λ r. ⌜ r ≡ partAnswer (printed (linesOf (inputOf (now (leap .entry)) (sunstart .0) (now (sun .entry)) (moonstart .0) (now (moon .entry))))) from (length (now (room .entry))) ⌝ }
-    ensures { λ r. ⌜ now (room .exit) ≡ partHeld (printed (linesOf (inputOf (now (leap .entry)) (sunstart .0) (now (sun .entry)) (moonstart .0) (now (moon .entry))))) from (now (room .entry)) ⌝ }
+    ensures { λ r. ⌜ r ≡ partAnswer (printed (listed (inputs (now (leap .entry)) (sunstart .0) (now (sun .entry)) (moonstart .0) (now (moon .entry))))) from (length (now (room .entry))) ⌝ }
+    ensures { λ r. ⌜ now (room .exit) ≡ partHeld (printed (listed (inputs (now (leap .entry)) (sunstart .0) (now (sun .entry)) (moonstart .0) (now (moon .entry))))) from (now (room .entry)) ⌝ }
 {
-    let check = judge(leap, sunstart, sun, moonstart, moon);
+    let check = inputs::judge(leap, sunstart, sun, moonstart, moon);
     if let Check::Refused(r) = check {
         return put_refusal(r.number, from, room);
     }
@@ -166,8 +136,8 @@ pub fn put_input(
 fn put_sections(words: &[i64], sun: usize, moon: usize, from: usize, room: &mut [u8]) -> Part
     requires { ⌜ (1 ≤ sun) × ((sun + 2 ≤ moon) × (moon + 2 ≤ length (now words))) ⌝ }
     requires { ⌜ length (now words) ≤ 8192 ⌝ }
-    ensures { λ r. ⌜ r ≡ partAnswer (printed (linesOf (inputAt (now (words .entry)) (record { sun = sun; moon = moon })))) from (length (now (room .entry))) ⌝ }
-    ensures { λ r. ⌜ now (room .exit) ≡ partHeld (printed (linesOf (inputAt (now (words .entry)) (record { sun = sun; moon = moon })))) from (now (room .entry)) ⌝ }
+    ensures { λ r. ⌜ r ≡ partAnswer (printed (listed (inputsAt (now (words .entry)) (record { sun = sun; moon = moon })))) from (length (now (room .entry))) ⌝ }
+    ensures { λ r. ⌜ now (room .exit) ≡ partHeld (printed (listed (inputsAt (now (words .entry)) (record { sun = sun; moon = moon })))) from (now (room .entry)) ⌝ }
 {
     let first = sun + 2;
     let behind = moon + 2;
@@ -187,8 +157,8 @@ fn put_sections(words: &[i64], sun: usize, moon: usize, from: usize, room: &mut 
 // A part of what is printed for the input's words.
 pub fn put_words(words: &[i64], from: usize, room: &mut [u8]) -> Part
     requires { ⌜ length (now words) ≤ 8192 ⌝ }
-    ensures { λ r. ⌜ r ≡ partAnswer (printed (linesOfWords (now (words .entry)))) from (length (now (room .entry))) ⌝ }
-    ensures { λ r. ⌜ now (room .exit) ≡ partHeld (printed (linesOfWords (now (words .entry)))) from (now (room .entry)) ⌝ }
+    ensures { λ r. ⌜ r ≡ partAnswer (printed (listedWords (now (words .entry)))) from (length (now (room .entry))) ⌝ }
+    ensures { λ r. ⌜ now (room .exit) ≡ partHeld (printed (listedWords (now (words .entry)))) from (now (room .entry)) ⌝ }
 {
     match layout::find_places(words) {
         PlacesAnswer::Refused(r) => put_refusal(r.number, from, room),

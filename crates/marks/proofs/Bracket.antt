@@ -1,5 +1,4 @@
--- What the locator keeps: a stretch of whose two ends the first is under a mark and the second has reached it. Any second strictly inside gives a shorter one,
--- and where nothing lies inside the mark is found. Assumes nothing.
+-- What the locator keeps, a bracket: any second strictly inside gives a shorter one, and where nothing lies inside the mark is found. Assumes nothing.
 use mathlib.Core.Path.{_≡_, refl, sym, ap, _∙_, subst}
 use mathlib.Core.Logic.{⊎-elim}
 use Prim.Native.Nat.{ℕ, _^_, _≤_, _<_}
@@ -9,56 +8,45 @@ use lib.Signed.{_≤ℤ_, _<ℤ_}
 use Rattle.whole.specs.Parts.{ℤ-rules, →≤, parts-add}
 use Rattle.whole.specs.Laws.{<→≤, ≤-trans, ≤-antisymm, ≤-total}
 use Rattle.whole.specs.Ranges.{Within, within→}
-use Rattle.whole.specs.Distance.{distanceFrom}
+use Rattle.whole.specs.Distance.{distanceFrom, clash, back-one, lies-after, distances-add, distance-positive}
 use Rattle.series.specs.Rising.{Rising}
 use Rattle.marks.specs.Marks.{indexAt, secondOf}
-use Rattle.marks.specs.Indices.{clash, back-one, lies-after, distances-add, distance-positive, reached, ahead}
-use Rattle.marks.specs.Located.{located-only}
+use Rattle.marks.specs.Stretch.{Bracket}
+use Rattle.marks.specs.theory.Indices.{reached, ahead}
+use Rattle.marks.specs.theory.Located.{located-only}
 use Rattle.marks.proofs.Halves.{Inside}
 
-pub record Bracket (v : ℤ → ℤ) (mark : ℕ) (first last j lo hi below above : ℤ) (left : ℕ) : Type 0 where
-  pub from-first : first ≤ℤ lo
-  pub ordered : lo <ℤ hi
-  pub by-last : hi ≤ℤ last
-  pub at-lo : below ≡ v lo
-  pub at-hi : above ≡ v hi
-  pub under : below <ℤ (j *ℤ pos mark)
-  pub reaching : (j *ℤ pos mark) ≤ℤ above
-  pub left-is : left ≡ distanceFrom lo hi
-
-module _ {v : ℤ → ℤ} {mark : ℕ} {first last j lo hi below above : ℤ} {left : ℕ} (b : Bracket v mark first last j lo hi below above left) where
+module _ {v : ℤ → ℤ} {size : ℕ} {first last j lo hi below above : ℤ} (b : Bracket v size first last j lo hi below above) where
   -- ---- a second strictly inside
-  pub inside-at : {middle : ℤ} (step : ℕ) → middle ≡ lo +ℤ pos step → 0 < step → step < left → Inside lo hi middle
+  pub inside-at : {middle : ℤ} (step : ℕ) → middle ≡ lo +ℤ pos step → 0 < step → step < distanceFrom lo hi → Inside lo hi middle
   inside-at {middle} step e some few =
-      let d = b .left-is in
       let p = parts-add lo (pos step) in
       let q = parts-add lo (pos (distanceFrom lo hi)) in
       let r = lies-after (<→≤ (b .ordered)) in
       record { after-lo = omega ℤ-rules; before-hi = omega ℤ-rules }
 
   module _ {middle value : ℤ} (i : Inside lo hi middle) (at : value ≡ v middle) where
-    pub upper : value <ℤ (j *ℤ pos mark) → Bracket v mark first last j middle hi value above (distanceFrom middle hi)
+    pub upper : value <ℤ (j *ℤ pos size) → Bracket v size first last j middle hi value above
     upper h =
         let x = b .from-first in
         let y = i .after-lo in
-        record { from-first = omega ℤ-rules; ordered = i .before-hi; by-last = b .by-last; at-lo = at; at-hi = b .at-hi; under = h; reaching = b .reaching; left-is = refl }
+        record { from-first = omega ℤ-rules; ordered = i .before-hi; by-last = b .by-last; at-lo = at; at-hi = b .at-hi; under = h; reaching = b .reaching }
 
-    pub lower : (j *ℤ pos mark) ≤ℤ value → Bracket v mark first last j lo middle below value (distanceFrom lo middle)
+    pub lower : (j *ℤ pos size) ≤ℤ value → Bracket v size first last j lo middle below value
     lower h =
         let x = b .by-last in
         let y = i .before-hi in
-        record { from-first = b .from-first; ordered = i .after-lo; by-last = omega ℤ-rules; at-lo = b .at-lo; at-hi = at; under = b .under; reaching = h; left-is = refl }
+        record { from-first = b .from-first; ordered = i .after-lo; by-last = omega ℤ-rules; at-lo = b .at-lo; at-hi = at; under = b .under; reaching = h }
 
-    pub upper-falls : distanceFrom middle hi < left
-    upper-falls = let d = b .left-is in let s = distances-add (<→≤ (i .after-lo)) (<→≤ (i .before-hi)) in let p = distance-positive (i .after-lo) in omega arith
+    pub upper-falls : distanceFrom middle hi < distanceFrom lo hi
+    upper-falls = let s = distances-add (<→≤ (i .after-lo)) (<→≤ (i .before-hi)) in let p = distance-positive (i .after-lo) in omega arith
 
-    pub lower-falls : distanceFrom lo middle < left
-    lower-falls = let d = b .left-is in let s = distances-add (<→≤ (i .after-lo)) (<→≤ (i .before-hi)) in let p = distance-positive (i .before-hi) in omega arith
+    pub lower-falls : distanceFrom lo middle < distanceFrom lo hi
+    lower-falls = let s = distances-add (<→≤ (i .after-lo)) (<→≤ (i .before-hi)) in let p = distance-positive (i .before-hi) in omega arith
 
   -- ---- where nothing lies inside
-  pub found : Rising v first last mark → left ≤ 1 → hi ≡ secondOf v mark first last j
+  pub found : Rising v first last size → distanceFrom lo hi ≤ 1 → hi ≡ secondOf v size first last j
   found rising few =
-      let d = b .left-is in
       let p = distance-positive (b .ordered) in
       let one : distanceFrom lo hi ≡ 1 = omega arith in
       let next : hi ≡ lo +ℤ pos 1 = lies-after (<→≤ (b .ordered)) ∙ rw one in
@@ -68,12 +56,12 @@ module _ {v : ℤ → ℤ} {mark : ℕ} {first last j lo hi below above : ℤ} {
       located-only rising j hi (record {
         after-first = omega ℤ-rules;
         by-last = b .by-last;
-        less-before = rw before (subst (λ (z : ℤ). z <ℤ (j *ℤ pos mark)) (b .at-lo) (b .under));
-        reached-here = subst (λ (z : ℤ). (j *ℤ pos mark) ≤ℤ z) (b .at-hi) (b .reaching);
+        less-before = rw before (subst (λ (z : ℤ). z <ℤ (j *ℤ pos size)) (b .at-lo) (b .under));
+        reached-here = subst (λ (z : ℤ). (j *ℤ pos size) ≤ℤ z) (b .at-hi) (b .reaching);
       })
 
   -- ---- what the guess asks
-  pub part-of : distanceFrom below (j *ℤ pos mark) ≤ distanceFrom below above
+  pub part-of : distanceFrom below (j *ℤ pos size) ≤ distanceFrom below above
   part-of = let s = distances-add (<→≤ (b .under)) (b .reaching) in omega arith
 
   pub values-near : ((s : ℤ) → first ≤ℤ s → s ≤ℤ last → Within 1000100000000000 (v s)) → distanceFrom below above < 2 ^ 63
@@ -88,23 +76,23 @@ module _ {v : ℤ → ℤ} {mark : ℕ} {first last j lo hi below above : ℤ} {
       let f = b .at-hi in
       omega (ℤ-rules, lies-after o, parts-add below (pos (distanceFrom below above)))
 
-  pub seconds-few : distanceFrom first last < 2 ^ 33 → left < 2 ^ 33
+  pub seconds-few : distanceFrom first last < 2 ^ 33 → distanceFrom lo hi < 2 ^ 33
   seconds-few h =
       let x = b .from-first in
       let y = b .ordered in
       let z = b .by-last in
       let o : first ≤ℤ last = omega ℤ-rules in
-      omega (ℤ-rules, b .left-is, lies-after (<→≤ y), lies-after o, parts-add lo (pos (distanceFrom lo hi)), parts-add first (pos (distanceFrom first last)))
+      omega (ℤ-rules, lies-after (<→≤ y), lies-after o, parts-add lo (pos (distanceFrom lo hi)), parts-add first (pos (distanceFrom first last)))
 
 -- ---- the whole span, where j is listed
-pub whole-span : {v : ℤ → ℤ} {mark : ℕ} {first last j below above : ℤ} {left : ℕ} → Rising v first last mark → first ≤ℤ last → indexAt v mark first <ℤ j → j ≤ℤ indexAt v mark last → below ≡ v first → above ≡ v last → left ≡ distanceFrom first last →
-    Bracket v mark first last j first last below above left
-whole-span {v} {mark} {first} {last} {j} {below} {above} rising o low high e f d =
-    let under : v first <ℤ (j *ℤ pos mark) = ahead v mark (rising .some-mark) j first low in
-    let reaching : (j *ℤ pos mark) ≤ℤ v last = reached v mark (rising .some-mark) j last high in
+pub whole-span : {v : ℤ → ℤ} {size : ℕ} {first last j below above : ℤ} → Rising v first last size → first ≤ℤ last → indexAt v size first <ℤ j → j ≤ℤ indexAt v size last → below ≡ v first → above ≡ v last →
+    Bracket v size first last j first last below above
+whole-span {v} {size} {first} {last} {j} {below} {above} rising o low high e f =
+    let under : v first <ℤ (j *ℤ pos size) = ahead v size (rising .some-mark) j first low in
+    let reaching : (j *ℤ pos size) ≤ℤ v last = reached v size (rising .some-mark) j last high in
     let apart : first <ℤ last =
     ⊎-elim
-    (λ (h : last ≤ℤ first). absurd (clash low (subst (λ (s : ℤ). j ≤ℤ indexAt v mark s) (≤-antisymm h o) high)))
+    (λ (h : last ≤ℤ first). absurd (clash low (subst (λ (s : ℤ). j ≤ℤ indexAt v size s) (≤-antisymm h o) high)))
     (λ (h : first <ℤ last). h)
     (≤-total last first)
     in
@@ -114,7 +102,6 @@ whole-span {v} {mark} {first} {last} {j} {below} {above} rising o low high e f d
       by-last = →≤ (omega arith);
       at-lo = e;
       at-hi = f;
-      under = subst (λ (z : ℤ). z <ℤ (j *ℤ pos mark)) (sym e) under;
-      reaching = subst (λ (z : ℤ). (j *ℤ pos mark) ≤ℤ z) (sym f) reaching;
-      left-is = d;
+      under = subst (λ (z : ℤ). z <ℤ (j *ℤ pos size)) (sym e) under;
+      reaching = subst (λ (z : ℤ). (j *ℤ pos size) ≤ℤ z) (sym f) reaching;
     }

@@ -1,4 +1,2 @@
 pub mod Halves
-pub mod Lent
-pub mod Bits
 pub mod Bracket

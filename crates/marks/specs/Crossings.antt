@@ -1,30 +1,16 @@
--- Demand 3 (a): the defined list of a rising value is exactly its crossings, each once, in time order. The two theorems are `listed-exactly` and
--- `listed-in-time-order`, at the end; `one-second` and `one-index` say that a mark has one second and a second one mark. Assumes nothing.
-use mathlib.Core.Path.{_≡_, refl, sym, ap₂, _∙_, subst}
-use mathlib.Core.Bool.{Bool, true, false, cond}
-use mathlib.Core.Logic.{⊎-elim, _↔_}
-use mathlib.Core.List.{List, [], _∷_, List·Memᴰ, List·Memᴰ·head, List·Memᴰ·not-nil, List·Memᴰ·append-cases, List·Memᴰ·eq-of-singleton, Memᴰ·append-left, Memᴰ·append-right}
+-- What the list of marks is measured by (document 01, "Marks"): the crossings of a value, time order, and marks by their indices. Assumes nothing: these are definitions.
+use mathlib.Core.List.{List, [], _∷_, List·Memᴰ}
 use Prim.Native.Nat.{ℕ, zero, suc}
-use native.Mathlib.Omega.{arith}
 use lib.IntN.{ℤ, pos, _+ℤ_, _-ℤ_, _*ℤ_}
-use lib.Signed.{ltZ, _≤ℤ_, _<ℤ_}
-use Rattle.whole.specs.Parts.{ℤ-rules, →≤, →≡, parts-add}
-use Rattle.whole.specs.Laws.{≤-antisymm, ≤-trans, <-≤-trans, ≤-<-trans, ≤-total}
-use Rattle.whole.specs.Distance.{distanceFrom}
-use Rattle.whole.specs.Solver.{lt-yes}
-use Rattle.series.specs.Rising.{Rising}
-use Rattle.marks.specs.Marks.{Mark, indexAt, markAt, marksAfter, marks}
-use Rattle.marks.specs.Indices.{clash, next, back-one, one-before, lies-after, reached, reaches, ahead, not-reached, index-rises-by-one, index-mono}
-use Rattle.marks.specs.StretchLaws.{lists-none, lists-one}
-
--- ---- what is claimed
+use lib.Signed.{_≤ℤ_, _<ℤ_}
+use Rattle.marks.specs.Marks.{Mark}
 
 -- "Mark j is at second s when the value at s is at least j marks and the value at s - 1 is less; s - 1 must be in the span"
-pub record Crossing (v : ℤ → ℤ) (mark : ℕ) (first last : ℤ) (m : Mark) : Type 0 where
+pub record Crossing (v : ℤ → ℤ) (size : ℕ) (first last : ℤ) (m : Mark) : Type 0 where
   pub after-first : first <ℤ m .second
   pub by-last : m .second ≤ℤ last
-  pub less-before : v (m .second -ℤ pos 1) <ℤ (m .index *ℤ pos mark)
-  pub reached-here : (m .index *ℤ pos mark) ≤ℤ v (m .second)
+  pub less-before : v (m .second -ℤ pos 1) <ℤ (m .index *ℤ pos size)
+  pub reached-here : (m .index *ℤ pos size) ≤ℤ v (m .second)
 
 -- mark j at second s
 abbrev pub marked : ℤ → ℤ → Mark
@@ -39,140 +25,7 @@ abbrev pub InTimeOrder : List Mark → Type 0
 InTimeOrder [] = Unit
 InTimeOrder (m ∷ l) = ((n : Mark) → n ∈ l → (m .second <ℤ n .second) × (m .index <ℤ n .index)) × InTimeOrder l
 
--- ---- how it is shown
-
-in-one : (v : ℤ → ℤ) (mark : ℕ) (s : ℤ) (m : Mark) → m ∈ markAt v mark s → (m ≡ marked (indexAt v mark s) s) × (indexAt v mark (s -ℤ pos 1) <ℤ indexAt v mark s)
-unfolding markAt
-in-one v mark s m = go (ltZ (indexAt v mark (s -ℤ pos 1)) (indexAt v mark s)) refl
-  where
-    go : (b : Bool) → ltZ (indexAt v mark (s -ℤ pos 1)) (indexAt v mark s) ≡ b → m ∈ cond b (marked (indexAt v mark s) s ∷ []) [] → (m ≡ marked (indexAt v mark s) s) × (indexAt v mark (s -ℤ pos 1) <ℤ indexAt v mark s)
-    go true e h = (List·Memᴰ·eq-of-singleton h, lt-yes e)
-    go false e h = absurd (List·Memᴰ·not-nil h)
-
-module _ {v : ℤ → ℤ} {first last : ℤ} {mark : ℕ} (rising : Rising v first last mark) where
-  pub sooner : {a b : ℤ} {m : Mark} → Crossing v mark (a +ℤ pos 1) b m → Crossing v mark a b m
-  sooner {a} {b} {m} c =
-      let p = parts-add a (pos 1) in
-      let q = c .after-first in
-      record { after-first = omega ℤ-rules; by-last = c .by-last; less-before = c .less-before; reached-here = c .reached-here }
-
-  only-crossings : (n : ℕ) (a b : ℤ) → first ≤ℤ a → b ≤ℤ last → b ≡ a +ℤ pos n → (m : Mark) → m ∈ marksAfter v mark a n → Crossing v mark a b m
-  unfolding marksAfter
-  only-crossings zero a b l h e m i = absurd (List·Memᴰ·not-nil i)
-  only-crossings (suc n) a b l h e m i =
-      let p = parts-add a (pos 1) in
-      let q = parts-add a (pos (suc n)) in
-      ⊎-elim
-      (λ (here : m ∈ markAt v mark (a +ℤ pos 1)).
-      let w = in-one v mark (a +ℤ pos 1) m here in
-      subst (λ (k : Mark). Crossing v mark a b k) (sym (w .0))
-      (record {
-        after-first = omega ℤ-rules;
-        by-last = omega ℤ-rules;
-        less-before = ahead v mark (rising .some-mark) (indexAt v mark (a +ℤ pos 1)) ((a +ℤ pos 1) -ℤ pos 1) (w .1);
-        reached-here = reached v mark (rising .some-mark) (indexAt v mark (a +ℤ pos 1)) (a +ℤ pos 1) (→≤ (omega arith));
-      }))
-      (λ (later : m ∈ marksAfter v mark (a +ℤ pos 1) n).
-      sooner (only-crossings n (a +ℤ pos 1) b (omega ℤ-rules) h (e ∙ next a n) m later))
-      (List·Memᴰ·append-cases (markAt v mark (a +ℤ pos 1)) i)
-
-  all-crossings : (n : ℕ) (a b : ℤ) → first ≤ℤ a → b ≤ℤ last → b ≡ a +ℤ pos n → (m : Mark) → Crossing v mark a b m → m ∈ marksAfter v mark a n
-  unfolding marksAfter
-  all-crossings zero a b l h e m c =
-      let p = parts-add a (pos 0) in
-      let x = c .after-first in
-      let y = c .by-last in
-      absurd (omega ℤ-rules)
-  all-crossings (suc n) a b l h e m c =
-      let p = parts-add a (pos 1) in
-      let q = parts-add a (pos (suc n)) in
-      let x = c .after-first in
-      let y = c .by-last in
-      ⊎-elim
-      (λ (k : m .second ≤ℤ (a +ℤ pos 1)).
-      let at : m .second ≡ a +ℤ pos 1 = omega ℤ-rules in
-      let low : indexAt v mark a <ℤ m .index = not-reached v mark (rising .some-mark) (m .index) a (rw (at, back-one a) at (c .less-before)) in
-      let high : m .index ≤ℤ indexAt v mark (a +ℤ pos 1) = reaches v mark (rising .some-mark) (m .index) (a +ℤ pos 1) (rw at at (c .reached-here)) in
-      let near = index-rises-by-one rising a l (omega ℤ-rules) in
-      let r = parts-add (indexAt v mark a) (pos 1) in
-      let is : m .index ≡ indexAt v mark (a +ℤ pos 1) = omega ℤ-rules in
-      Memᴰ·append-left {s = markAt v mark (a +ℤ pos 1)} (marksAfter v mark (a +ℤ pos 1) n)
-      (rw (lists-one v mark (a +ℤ pos 1) (rw (back-one a) (<-≤-trans low high)))
-      (List·Memᴰ·head (ap₂ marked is at))))
-      (λ (k : (a +ℤ pos 1) <ℤ m .second).
-      Memᴰ·append-right (markAt v mark (a +ℤ pos 1))
-      (all-crossings n (a +ℤ pos 1) b (omega ℤ-rules) h (e ∙ next a n) m
-      (record { after-first = k; by-last = y; less-before = c .less-before; reached-here = c .reached-here })))
-      (≤-total (m .second) (a +ℤ pos 1))
-
-  order-after : (n : ℕ) (a b : ℤ) → first ≤ℤ a → b ≤ℤ last → b ≡ a +ℤ pos n → InTimeOrder (marksAfter v mark a n)
-  unfolding marksAfter
-  order-after zero a b l h e = tt
-  order-after (suc n) a b l h e =
-      let p = parts-add a (pos 1) in
-      let q = parts-add a (pos (suc n)) in
-      let l′ : first ≤ℤ (a +ℤ pos 1) = omega ℤ-rules in
-      let rest : InTimeOrder (marksAfter v mark (a +ℤ pos 1) n) = order-after n (a +ℤ pos 1) b l′ h (e ∙ next a n) in
-      ⊎-elim
-      (λ (k : indexAt v mark (a +ℤ pos 1) ≤ℤ indexAt v mark a).
-      rw (lists-none v mark (a +ℤ pos 1) (rw (back-one a) k)) rest)
-      (λ (k : indexAt v mark a <ℤ indexAt v mark (a +ℤ pos 1)).
-      rw (lists-one v mark (a +ℤ pos 1) (rw (back-one a) k)) (
-        λ m i.
-            let c = only-crossings n (a +ℤ pos 1) b l′ h (e ∙ next a n) m i in
-            let x = c .after-first in
-            let y = c .by-last in
-            let z = one-before (m .second) in
-            let low : indexAt v mark (m .second -ℤ pos 1) <ℤ m .index = not-reached v mark (rising .some-mark) (m .index) (m .second -ℤ pos 1) (c .less-before) in
-            (x, ≤-<-trans (index-mono rising l′ (omega ℤ-rules) (omega ℤ-rules)) low),
-        rest,
-      ))
-      (≤-total (indexAt v mark (a +ℤ pos 1)) (indexAt v mark a))
-
-  -- ---- the theorems
-
-  -- a mark is listed exactly if it is a crossing: every one, and no other
-  pub listed-exactly : first ≤ℤ last → (m : Mark) → m ∈ marks v mark first last ↔ Crossing v mark first last m
-  unfolding marks
-  listed-exactly o m = (
-    only-crossings (distanceFrom first last) first last (→≤ (omega arith)) (→≤ (omega arith)) (lies-after o) m,
-    all-crossings (distanceFrom first last) first last (→≤ (omega arith)) (→≤ (omega arith)) (lies-after o) m,
-  )
-
-  -- each once, and in time order
-  pub listed-in-time-order : first ≤ℤ last → InTimeOrder (marks v mark first last)
-  unfolding marks
-  listed-in-time-order o = order-after (distanceFrom first last) first last (→≤ (omega arith)) (→≤ (omega arith)) (lies-after o)
-
-  not-twice : (j s t : ℤ) → Crossing v mark first last (marked j s) → Crossing v mark first last (marked j t) → s <ℤ t → ⊥
-  not-twice j s t c d h =
-      let x = c .after-first in
-      let y = d .by-last in
-      let z = one-before t in
-      clash
-      (not-reached v mark (rising .some-mark) j (t -ℤ pos 1) (d .less-before))
-      (≤-trans (reaches v mark (rising .some-mark) j s (c .reached-here)) (index-mono rising (omega ℤ-rules) (omega ℤ-rules) (omega ℤ-rules)))
-
-  -- a mark is crossed at one second
-  pub one-second : (j s t : ℤ) → Crossing v mark first last (marked j s) → Crossing v mark first last (marked j t) → s ≡ t
-  one-second j s t c d =
-      ⊎-elim
-      (λ (h : s ≤ℤ t). ⊎-elim (λ (k : t ≤ℤ s). ≤-antisymm h k) (λ (k : s <ℤ t). absurd (not-twice j s t c d k)) (≤-total t s))
-      (λ (k : t <ℤ s). absurd (not-twice j t s d c k))
-      (≤-total s t)
-
-  -- and at a second one mark
-  pub one-index : (s i j : ℤ) → Crossing v mark first last (marked i s) → Crossing v mark first last (marked j s) → i ≡ j
-  one-index s i j c d =
-      let x = c .after-first in
-      let y = c .by-last in
-      let z = one-before s in
-      let near = index-rises-by-one rising (s -ℤ pos 1) (omega ℤ-rules) (omega ℤ-rules) in
-      let at : (s -ℤ pos 1) +ℤ pos 1 ≡ s = →≡ (omega (arith, parts-add (s -ℤ pos 1) (pos 1))) in
-      let near′ : indexAt v mark s ≤ℤ (indexAt v mark (s -ℤ pos 1) +ℤ pos 1) = rw at at near in
-      let r = parts-add (indexAt v mark (s -ℤ pos 1)) (pos 1) in
-      let low-i = not-reached v mark (rising .some-mark) i (s -ℤ pos 1) (c .less-before) in
-      let low-j = not-reached v mark (rising .some-mark) j (s -ℤ pos 1) (d .less-before) in
-      let high-i = reaches v mark (rising .some-mark) i s (c .reached-here) in
-      let high-j = reaches v mark (rising .some-mark) j s (d .reached-here) in
-      omega ℤ-rules
+-- the n marks from index j on, each at the second that `at` gives
+unfoldable pub numbered : (ℤ → ℤ) → ℤ → ℕ → List Mark
+numbered at j zero = []
+numbered at j (suc n) = marked j (at j) ∷ numbered at (j +ℤ pos 1) n

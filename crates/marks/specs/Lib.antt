@@ -1,12 +1,10 @@
 pub mod Marks
-pub mod Indices
-pub mod StretchLaws
 pub mod Crossings
-pub mod Located
+pub mod Listed
 pub mod Words
 pub mod Stretch
-pub mod ExactSum
-pub mod Listed
-pub mod Span
 pub mod Answers
+pub mod theory
 pub mod Theorems
+pub mod OneResult
+pub mod Examples

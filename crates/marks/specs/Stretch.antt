@@ -1,18 +1,38 @@
--- What the finder is handed: a stretch of a rising value, the indices at its two ends, and room for exactly its marks. Assumes nothing: this is a definition.
+-- What the finder is handed: a stretch of a rising value, the indices at its two ends, and room for exactly its marks. What the locator is handed: two seconds
+-- with their values, the first under a mark and the second at it or over. Assumes nothing: these are definitions.
 use mathlib.Core.Path.{_≡_}
 use Prim.Native.Nat.{ℕ, _*_, _^_, _<_}
-use lib.IntN.{ℤ}
-use lib.Signed.{_≤ℤ_}
+use lib.IntN.{ℤ, pos, _*ℤ_}
+use lib.Signed.{_≤ℤ_, _<ℤ_}
 use Rattle.whole.specs.Distance.{distanceFrom}
+use Rattle.series.specs.Bodies.{numbers}
+use Rattle.series.specs.Series.{Series, valueAt, lastSecond}
 use Rattle.series.specs.Rising.{Rising}
 use Rattle.marks.specs.Marks.{indexAt}
 
-pub record Stretch (v : ℤ → ℤ) (mark : ℕ) (first last lo hi low-index high-index : ℤ) (room : ℕ) : Type 0 where
-  pub rising : Rising v first last mark
+pub record Stretch (v : ℤ → ℤ) (size : ℕ) (first last lo hi low-index high-index : ℤ) (room : ℕ) : Type 0 where
+  pub rising : Rising v first last size
   pub short : distanceFrom first last < 2 ^ 62
   pub from-first : first ≤ℤ lo
   pub ordered : lo ≤ℤ hi
   pub by-last : hi ≤ℤ last
-  pub at-lo : low-index ≡ indexAt v mark lo
-  pub at-hi : high-index ≡ indexAt v mark hi
+  pub at-lo : low-index ≡ indexAt v size lo
+  pub at-hi : high-index ≡ indexAt v size hi
   pub room-is : room ≡ 2 * distanceFrom low-index high-index
+
+pub record Bracket (v : ℤ → ℤ) (size : ℕ) (first last j lo hi below above : ℤ) : Type 0 where
+  pub from-first : first ≤ℤ lo
+  pub ordered : lo <ℤ hi
+  pub by-last : hi ≤ℤ last
+  pub at-lo : below ≡ v lo
+  pub at-hi : above ≡ v hi
+  pub under : below <ℤ (j *ℤ pos size)
+  pub reaching : (j *ℤ pos size) ≤ℤ above
+
+-- both of a series
+module _ (s : Series) where
+  abbrev pub StretchOf : (lo hi low-index high-index : ℤ) (room : ℕ) → Type 0
+  StretchOf = Stretch (valueAt s) (numbers (s .body) .markSize) (s .start) (lastSecond s)
+
+  abbrev pub BracketOf : (j lo hi below above : ℤ) → Type 0
+  BracketOf = Bracket (valueAt s) (numbers (s .body) .markSize) (s .start) (lastSecond s)

@@ -4,7 +4,7 @@ ghost use mathlib.Core.Bool.{not, _&&_};
 ghost use Prim.Native.Nat.{_^_, _/_, _≤_, _<_};
 ghost use lib.Dec.{ltb};
 
-// A place strictly inside n: a / b of the way, or, where that is close to one end, twice as far from that end, so that the next stretch is short.
+// So many seconds on, strictly inside n: a / b of the way, or, where that is close to one end, twice as far from that end, so that the next stretch is short.
 fn proportional(a: usize, b: usize, n: usize) -> usize
     requires { ⌜ a ≤ b ⌝ }
     requires { ⌜ 1 < n ⌝ }
@@ -25,7 +25,7 @@ fn proportional(a: usize, b: usize, n: usize) -> usize
 }
 
 // The same, or half the way.
-pub fn place(halve: bool, a: usize, b: usize, n: usize) -> usize
+pub fn look(halve: bool, a: usize, b: usize, n: usize) -> usize
     requires { ⌜ a ≤ b ⌝ }
     requires { ⌜ 1 < n ⌝ }
     requires { ⌜ n < 2 ^ 33 ⌝ }

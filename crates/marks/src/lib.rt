@@ -5,14 +5,12 @@ use series::Body;
 use times::Second;
 ghost use mathlib.Core.Path.{_≡_};
 ghost use lib.ListN.{length};
-ghost use Rattle.series.specs.Bodies.{numbers};
-ghost use Rattle.series.specs.Series.{valueAt, lastSecond};
+ghost use Rattle.series.specs.Series.{series};
 ghost use Rattle.series.specs.Acceptance.{Accepted};
-ghost use Rattle.marks.specs.Marks.{marks};
-ghost use Rattle.marks.specs.Words.{words};
-ghost use Rattle.marks.specs.Stretch.{Stretch};
-ghost use Rattle.marks.specs.Listed.{listedMarks};
-ghost use Rattle.marks.specs.Answers.{paperCount, paperList, countedMarks, listedInto, held};
+ghost use Rattle.marks.specs.Words.{markWords};
+ghost use Rattle.marks.specs.Stretch.{StretchOf};
+ghost use Rattle.marks.specs.Listed.{marksBetween, listedMarks};
+ghost use Rattle.marks.specs.Answers.{paperCount, paperList, countedMarks, listedInto, writtenInto};
 
 mod guess;
 pub mod inner;
@@ -23,49 +21,33 @@ fn find(
     body: Body,
     start: Second,
     coefs: &[i64],
-    lo: i64,
-    hi: i64,
+    lo: Second,
+    hi: Second,
     lowest: i64,
     highest: i64,
     out: &mut [i64],
 )
-    requires { ⌜ Accepted body (start .0) (now coefs) ⌝ }
-    requires { ⌜ Stretch (valueAt body (start .0) (now coefs)) (numbers body .mark) (start .0) (lastSecond body (start .0) (now coefs)) lo hi lowest highest (length (now out)) ⌝ }
-    ensures { λ _. ⌜ now (out .exit) ≡ words (marks (valueAt body (start .0) (now (coefs .entry))) (numbers body .mark) lo hi) ⌝ }
+    requires { ⌜ Accepted (series body (start .0) (now coefs)) ⌝ }
+    requires { ⌜ StretchOf (series body (start .0) (now coefs)) (lo .0) (hi .0) lowest highest (length (now out)) ⌝ }
+    ensures { λ _. ⌜ now (out .exit) ≡ markWords (marksBetween (series body (start .0) (now (coefs .entry))) (lo .0) (hi .0)) ⌝ }
 {
     if lowest == highest {
         return;
     }
-    let seconds = whole::inner::distance(lo, hi);
+    let from = lo.0;
+    let to = hi.0;
+    let seconds = whole::inner::distance(from, to);
     if seconds == 1 {
         out[0] = highest;
-        out[1] = hi;
+        out[1] = to;
         return;
     }
-    let middle = whole::inner::middle(lo, hi);
-    let between = inner::index_at(body, start, coefs, Second(middle));
+    let mid = Second(whole::inner::middle(from, to));
+    let between = inner::index_at(body, start, coefs, mid);
     let count = whole::inner::distance(lowest, between);
     let k = 2 * count;
-    find(
-        body,
-        start,
-        coefs,
-        lo,
-        middle,
-        lowest,
-        between,
-        &mut out[..k],
-    );
-    find(
-        body,
-        start,
-        coefs,
-        middle,
-        hi,
-        between,
-        highest,
-        &mut out[k..],
-    );
+    find(body, start, coefs, lo, mid, lowest, between, &mut out[..k]);
+    find(body, start, coefs, mid, hi, between, highest, &mut out[k..]);
 }
 
 // How many marks a series lists, or why it is refused.
@@ -76,7 +58,7 @@ pub enum CountAnswer {
 
 // The number of marks of a series.
 pub fn count_marks(body: Body, start: Second, coefs: &[i64]) -> CountAnswer
-    ensures { λ r. ⌜ paperCount r ≡ countedMarks body (start .0) (now (coefs .entry)) ⌝ }
+    ensures { λ r. ⌜ paperCount r ≡ countedMarks (series body (start .0) (now (coefs .entry))) ⌝ }
 {
     let check = series::accept(body, start, coefs);
     match check {
@@ -91,36 +73,45 @@ pub enum ListAnswer {
     Refused(Refusal),
 }
 
-// The marks of a series in time order, from the start of `out` on: two words to a mark, its index and its second.
-pub fn list_marks(body: Body, start: Second, coefs: &[i64], out: &mut [i64]) -> ListAnswer
-    ensures { λ r. ⌜ paperList r ≡ listedInto body (start .0) (now (coefs .entry)) (length (now (out .entry))) ⌝ }
-    ensures { λ r. ⌜ now (out .exit) ≡ held (listedInto body (start .0) (now (coefs .entry)) (length (now (out .entry)))) (words (listedMarks body (start .0) (now (coefs .entry)))) (now (out .entry)) ⌝ }
+// What a listing into so many words answers, before anything is written.
+fn plan(body: Body, start: Second, coefs: &[i64], room: usize) -> ListAnswer
+    ensures { λ r. ⌜ paperList r ≡ listedInto (series body (start .0) (now (coefs .entry))) room ⌝ }
 {
     let check = series::accept(body, start, coefs);
     if let Check::Refused(refusal) = check {
         return ListAnswer::Refused(refusal);
     }
-    let first = start.0;
-    let last = series::inner::last_second(body, start, coefs);
-    let lowest = inner::first_reached(body, start, coefs);
-    let highest = inner::last_reached(body, start, coefs);
-    let count = whole::inner::distance(lowest, highest);
-    let needed = 2 * count;
-    if out.len() < needed {
-        return ListAnswer::Refused(Refusal {
-            number: 12,
-            segment: 0,
-        });
+    let count = inner::count(body, start, coefs);
+    if room / 2 < count {
+        return ListAnswer::Refused(refusals::ROOM);
     }
-    find(
-        body,
-        start,
-        coefs,
-        first,
-        last,
-        lowest,
-        highest,
-        &mut out[..needed],
-    );
     ListAnswer::Marks(count)
+}
+
+// The marks of a series in time order, from the start of `out` on: two words to a mark, its index and its second.
+pub fn list_marks(body: Body, start: Second, coefs: &[i64], out: &mut [i64]) -> ListAnswer
+    ensures { λ r. ⌜ paperList r ≡ listedInto (series body (start .0) (now (coefs .entry))) (length (now (out .entry))) ⌝ }
+    ensures { λ r. ⌜ now (out .exit) ≡ writtenInto (listedInto (series body (start .0) (now (coefs .entry))) (length (now (out .entry)))) (markWords (listedMarks (series body (start .0) (now (coefs .entry))))) (now (out .entry)) ⌝ }
+{
+    let plan = plan(body, start, coefs, out.len());
+    match plan {
+        ListAnswer::Refused(refusal) => ListAnswer::Refused(refusal),
+        ListAnswer::Marks(count) => {
+            let last = series::inner::last_second(body, start, coefs);
+            let lowest = inner::first_reached(body, start, coefs);
+            let highest = inner::last_reached(body, start, coefs);
+            let needed = 2 * count;
+            find(
+                body,
+                start,
+                coefs,
+                start,
+                last,
+                lowest,
+                highest,
+                &mut out[..needed],
+            );
+            ListAnswer::Marks(count)
+        }
+    }
 }

@@ -8,10 +8,11 @@ ghost use Prim.Native.Nat.{_+_, _^_, _≤_, _<_};
 ghost use lib.IntN.{pos, negℤ, _+ℤ_};
 ghost use lib.Signed.{_≤ℤ_};
 ghost use lib.ListN.{length};
+ghost use Rattle.series.specs.Series.{series};
 ghost use Rattle.series.specs.Acceptance.{Accepted};
-ghost use Rattle.marks.specs.Words.{words};
+ghost use Rattle.marks.specs.Words.{markWords};
 ghost use Rattle.marks.specs.Listed.{listedMarks, firstReached, lastReached, secondOfMark};
-ghost use Rattle.marks.specs.Answers.{listedInto, held};
+ghost use Rattle.marks.specs.Answers.{listedInto, writtenInto};
 ghost use Rattle.marks_bench.specs.Answer.{bodyOf, answerWord};
 ghost use Rattle.marks_bench.specs.Places.{Located, locatedInto, LocatedOr};
 
@@ -31,8 +32,8 @@ fn minus(number: u8) -> i64
 // The marks of a series in time order, from the start of `out` on; how many they are, or minus the number of the refusal.
 #[no_mangle]
 pub extern "C" fn marks_list(moon: bool, start: i64, coefs: &[i64], out: &mut [i64]) -> i64
-    ensures { λ r. ⌜ r ≡ answerWord (listedInto (bodyOf moon) start (now (coefs .entry)) (length (now (out .entry)))) ⌝ }
-    ensures { λ r. ⌜ now (out .exit) ≡ held (listedInto (bodyOf moon) start (now (coefs .entry)) (length (now (out .entry)))) (words (listedMarks (bodyOf moon) start (now (coefs .entry)))) (now (out .entry)) ⌝ }
+    ensures { λ r. ⌜ r ≡ answerWord (listedInto (series (bodyOf moon) start (now (coefs .entry))) (length (now (out .entry)))) ⌝ }
+    ensures { λ r. ⌜ now (out .exit) ≡ writtenInto (listedInto (series (bodyOf moon) start (now (coefs .entry))) (length (now (out .entry)))) (markWords (listedMarks (series (bodyOf moon) start (now (coefs .entry))))) (now (out .entry)) ⌝ }
 {
     match marks::list_marks(body_of(moon), Second(start), coefs, out) {
         ListAnswer::Marks(n) => whole::inner::signed(n),
@@ -41,17 +42,23 @@ pub extern "C" fn marks_list(moon: bool, start: i64, coefs: &[i64], out: &mut [i
 }
 
 // The second of the mark that comes i marks after the first.
-fn locate_nth(body: Body, start: Second, coefs: &[i64], lowest: i64, highest: i64, i: usize) -> i64
-    requires { ⌜ Accepted body (start .0) (now coefs) ⌝ }
-    requires { ⌜ lowest ≡ firstReached body (start .0) (now coefs) ⌝ }
-    requires { ⌜ highest ≡ lastReached body (start .0) (now coefs) ⌝ }
+fn locate_nth(
+    body: Body,
+    start: Second,
+    coefs: &[i64],
+    lowest: i64,
+    highest: i64,
+    i: usize,
+) -> Second
+    requires { ⌜ Accepted (series body (start .0) (now coefs)) ⌝ }
+    requires { ⌜ lowest ≡ firstReached (series body (start .0) (now coefs)) ⌝ }
+    requires { ⌜ highest ≡ lastReached (series body (start .0) (now coefs)) ⌝ }
     requires { ⌜ (lowest +ℤ pos (i + 1)) ≤ℤ highest ⌝ }
     requires { ⌜ i < 2 ^ 62 ⌝ }
-    ensures { λ r. ⌜ r ≡ secondOfMark body (start .0) (now (coefs .entry)) (lowest +ℤ pos (i + 1)) ⌝ }
+    ensures { λ r. ⌜ r .0 ≡ secondOfMark (series body (start .0) (now (coefs .entry))) (lowest +ℤ pos (i + 1)) ⌝ }
 {
     let index = whole::inner::add(lowest, whole::inner::signed(i + 1));
-    let second = marks::inner::locate(body, start, coefs, index);
-    second.0
+    marks::inner::locate(body, start, coefs, index)
 }
 
 // Fills the first n places of `out` with the seconds of the first n marks.
@@ -64,35 +71,37 @@ fn locate_each(
     n: usize,
     out: &mut [i64],
 )
-    requires { ⌜ Accepted body (start .0) (now coefs) ⌝ }
-    requires { ⌜ lowest ≡ firstReached body (start .0) (now coefs) ⌝ }
-    requires { ⌜ highest ≡ lastReached body (start .0) (now coefs) ⌝ }
+    requires { ⌜ Accepted (series body (start .0) (now coefs)) ⌝ }
+    requires { ⌜ lowest ≡ firstReached (series body (start .0) (now coefs)) ⌝ }
+    requires { ⌜ highest ≡ lastReached (series body (start .0) (now coefs)) ⌝ }
     requires { ⌜ (lowest +ℤ pos n) ≤ℤ highest ⌝ }
     requires { ⌜ n ≤ length (now out) ⌝ }
-    ensures { λ _. ⌜ Located (secondOfMark body (start .0) (now (coefs .entry))) lowest n (now (out .entry)) (now (out .exit)) ⌝ }
+    ensures { λ _. ⌜ Located (secondOfMark (series body (start .0) (now (coefs .entry)))) lowest n (now (out .entry)) (now (out .exit)) ⌝ }
 {
     let mut i = 0;
     while i < n {
-        out[i] = locate_nth(body, start, coefs, lowest, highest, i);
+        let second = locate_nth(body, start, coefs, lowest, highest, i);
+        let found = second.0;
+        out[i] = found;
         i += 1;
     }
 }
 
 // The seconds of the listed marks, each looked up by its index, from the start of `out` on; how many they are, or minus the number of the refusal.
 fn locate_all(body: Body, start: Second, coefs: &[i64], out: &mut [i64]) -> i64
-    ensures { λ r. ⌜ r ≡ answerWord (locatedInto body (start .0) (now (coefs .entry)) (length (now (out .entry)))) ⌝ }
-    ensures { λ r. ⌜ LocatedOr body (start .0) (now (coefs .entry)) (locatedInto body (start .0) (now (coefs .entry)) (length (now (out .entry)))) (now (out .entry)) (now (out .exit)) ⌝ }
+    ensures { λ r. ⌜ r ≡ answerWord (locatedInto (series body (start .0) (now (coefs .entry))) (length (now (out .entry)))) ⌝ }
+    ensures { λ r. ⌜ LocatedOr (series body (start .0) (now (coefs .entry))) (locatedInto (series body (start .0) (now (coefs .entry))) (length (now (out .entry)))) (now (out .entry)) (now (out .exit)) ⌝ }
 {
     let check = series::accept(body, start, coefs);
     if let Check::Refused(refusal) = check {
         return minus(refusal.number);
     }
-    let last = series::inner::last_second(body, start, coefs);
-    let lowest = marks::inner::index_at(body, start, coefs, start);
-    let highest = marks::inner::index_at(body, start, coefs, Second(last));
+    let lowest = marks::inner::first_reached(body, start, coefs);
+    let highest = marks::inner::last_reached(body, start, coefs);
     let count = whole::inner::distance(lowest, highest);
     if out.len() < count {
-        return minus(12);
+        let room = refusals::ROOM;
+        return minus(room.number);
     }
     locate_each(body, start, coefs, lowest, highest, count, out);
     whole::inner::signed(count)
@@ -101,8 +110,8 @@ fn locate_all(body: Body, start: Second, coefs: &[i64], out: &mut [i64]) -> i64
 // The same for a C program.
 #[no_mangle]
 pub extern "C" fn marks_locate(moon: bool, start: i64, coefs: &[i64], out: &mut [i64]) -> i64
-    ensures { λ r. ⌜ r ≡ answerWord (locatedInto (bodyOf moon) start (now (coefs .entry)) (length (now (out .entry)))) ⌝ }
-    ensures { λ r. ⌜ LocatedOr (bodyOf moon) start (now (coefs .entry)) (locatedInto (bodyOf moon) start (now (coefs .entry)) (length (now (out .entry)))) (now (out .entry)) (now (out .exit)) ⌝ }
+    ensures { λ r. ⌜ r ≡ answerWord (locatedInto (series (bodyOf moon) start (now (coefs .entry))) (length (now (out .entry)))) ⌝ }
+    ensures { λ r. ⌜ LocatedOr (series (bodyOf moon) start (now (coefs .entry))) (locatedInto (series (bodyOf moon) start (now (coefs .entry))) (length (now (out .entry)))) (now (out .entry)) (now (out .exit)) ⌝ }
 {
     locate_all(body_of(moon), Second(start), coefs, out)
 }

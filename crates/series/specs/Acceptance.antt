@@ -16,7 +16,7 @@ use Rattle.series.specs.declared.Body.{Body}
 use Rattle.series.specs.declared.ValueAnswer.{ValueAnswer}
 use Rattle.series.specs.declared.ValueAnswer.the-variants.{Value, Refused}
 use Rattle.series.specs.Bodies.{numbers}
-use Rattle.series.specs.Series.{segment, segments, valueAt, lastSecond}
+use Rattle.series.specs.Series.{Series, segment, segments, valueAt, lastSecond}
 
 -- 2: coefficient count not a multiple of 14, none, too many, or start out of range
 abbrev pub judgedShape : Body → ℤ → ℕ → Verdict (Unit {0})
@@ -46,23 +46,23 @@ rise body coefs k = value (segment coefs k) (negℤ (pos S)) -ℤ value (segment
 abbrev pub badJoint : Body → List ℤ → ℕ → Bool
 badJoint body coefs k = ltZ (rise body coefs k) (pos 200) || ltZ (pos 100000) (rise body coefs k)
 
-unfoldable pub judged : Body → ℤ → List ℤ → Verdict (Unit {0})
-judged body start coefs =
-    judgedShape body start (length coefs)
-    before perSegment (firstBad 3 (outOfRange coefs) 0 (length coefs))
-    before firstBad 4 (slow body coefs) 0 (segments coefs)
-    before firstBad 5 (badJoint body coefs) 1 (segments coefs - 1)
+unfoldable pub seriesJudged : Series → Verdict (Unit {0})
+seriesJudged s =
+    judgedShape (s .body) (s .start) (length (s .coefs))
+    before perSegment (firstBad 3 (outOfRange (s .coefs)) 0 (length (s .coefs)))
+    before firstBad 4 (slow (s .body) (s .coefs)) 0 (segments (s .coefs))
+    before firstBad 5 (badJoint (s .body) (s .coefs)) 1 (segments (s .coefs) - 1)
 
-abbrev pub Accepted : Body → ℤ → List ℤ → Type 0
-Accepted body start coefs = judged body start coefs ≡ accepted
+abbrev pub Accepted : Series → Type 0
+Accepted s = seriesJudged s ≡ accepted
 
 -- The value at a second: 2 to 5 on the whole series, then 6 outside the span.
-unfoldable pub valueOf : Body → ℤ → List ℤ → ℤ → Verdict ℤ
-valueOf body start coefs second =
-    judged body start coefs
-    before refuseWhen (ltZ second start) 6
-    before refuseWhen (ltZ (lastSecond body start coefs) second) 6
-    before answered (valueAt body start coefs second)
+unfoldable pub valueOf : Series → ℤ → Verdict ℤ
+valueOf s second =
+    seriesJudged s
+    before refuseWhen (ltZ second (s .start)) 6
+    before refuseWhen (ltZ (lastSecond s) second) 6
+    before answered (valueAt s second)
 
 abbrev pub paperValue : ValueAnswer → Verdict ℤ
 paperValue (Value v) = answered v

@@ -12,21 +12,25 @@ pub record Numbers : Type 0 where
   -- S/H: how far the place moves in a second
   pub step : ℕ
   -- how many units a mark is
-  pub mark : ℕ
+  pub markSize : ℕ
+  -- how many marks a circle has
+  pub circle : ℕ
   pub mostSegments : ℕ
 
 abbrev pub numbers : Body → Numbers
-numbers Sun = record { halfLength = 1382400; step = 48; mark = 540000000; mostSegments = 2000 }
-numbers Moon = record { halfLength = 172800; step = 384; mark = 3240000000; mostSegments = 16000 }
+numbers Sun = record { halfLength = 1382400; step = 48; markSize = 540000000; circle = 24; mostSegments = 2000 }
+numbers Moon = record { halfLength = 172800; step = 384; markSize = 3240000000; circle = 4; mostSegments = 16000 }
 
-pub record Lawful (n : Numbers) : Type 0 where
+pub record BodyLaws (n : Numbers) : Type 0 where
+  -- "S/H is 48 or 384"
   pub exact-step : n .step * n .halfLength ≡ S
-  pub some-step : 1 ≤ n .step
+  -- "A circle is 12,960,000,000 units."
+  pub whole-circle : n .circle * n .markSize ≡ 12960000000
   pub long : 172800 ≤ n .halfLength
   pub short : n .halfLength ≤ 1382400
-  pub large-mark : 100000 < n .mark
+  pub large-mark : 100000 < n .markSize
   pub short-span : 2 * n .halfLength * n .mostSegments ≤ 5529600000
 
-pub lawful : (body : Body) → Lawful (numbers body)
-lawful Sun = record { exact-step = refl; some-step = lit≤ tt; long = lit≤ tt; short = lit≤ tt; large-mark = lit< tt; short-span = lit≤ tt }
-lawful Moon = record { exact-step = refl; some-step = lit≤ tt; long = lit≤ tt; short = lit≤ tt; large-mark = lit< tt; short-span = lit≤ tt }
+pub body-laws : (body : Body) → BodyLaws (numbers body)
+body-laws Sun = record { exact-step = refl; whole-circle = refl; long = lit≤ tt; short = lit≤ tt; large-mark = lit< tt; short-span = lit≤ tt }
+body-laws Moon = record { exact-step = refl; whole-circle = refl; long = lit≤ tt; short = lit≤ tt; large-mark = lit< tt; short-span = lit≤ tt }

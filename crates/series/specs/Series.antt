@@ -1,7 +1,7 @@
 -- A series: a start second and fourteen coefficients a segment. Which segment has a second, and at which place; the value and the exact sum there
 -- (document 01, "Segments"). Assumes nothing: these are definitions.
 use mathlib.Core.List.{List}
-use Prim.Native.Nat.{ℕ, _*_, _/_, _%_}
+use Prim.Native.Nat.{ℕ, _*_, _/_}
 use lib.IntN.{ℤ, pos, _+ℤ_, _-ℤ_, _*ℤ_}
 use lib.Signed.{_≤ℤ_}
 use lib.ListN.{length, take, drop}
@@ -10,6 +10,15 @@ use Rattle.chebyshev.specs.Segment.{value, exact}
 use Rattle.series.specs.declared.Body.{Body}
 use Rattle.series.specs.Bodies.{numbers}
 
+-- "The start and the lent coefficients travel as one thing."
+pub record Series : Type 0 where
+  pub body : Body
+  pub start : ℤ
+  pub coefs : List ℤ
+
+abbrev pub series : Body → ℤ → List ℤ → Series
+series body start coefs = record { body = body; start = start; coefs = coefs }
+
 -- the coefficients of segment k, and how many segments there are
 abbrev pub segment : List ℤ → ℕ → List ℤ
 segment coefs k = take 14 (drop (14 * k) coefs)
@@ -17,31 +26,36 @@ segment coefs k = take 14 (drop (14 * k) coefs)
 abbrev pub segments : List ℤ → ℕ
 segments coefs = length coefs / 14
 
--- segment k begins at start + 2Hk and has 2H seconds
+-- "Segment k begins at start + 2Hk and has 2H seconds."
 abbrev pub segmentLength : Body → ℕ
 segmentLength body = 2 * numbers body .halfLength
 
+abbrev pub segmentStart : Series → ℕ → ℤ
+segmentStart s k = s .start +ℤ pos (segmentLength (s .body) * k)
+
+-- its middle: H seconds after its first
+abbrev pub middleOf : Series → ℕ → ℤ
+middleOf s k = segmentStart s k +ℤ pos (numbers (s .body) .halfLength)
+
 -- the span: from the first second of the first segment to the last of the last
-abbrev pub lastSecond : Body → ℤ → List ℤ → ℤ
-lastSecond body start coefs = start +ℤ pos (segmentLength body * segments coefs) -ℤ pos 1
+abbrev pub lastSecond : Series → ℤ
+lastSecond s = segmentStart s (segments (s .coefs)) -ℤ pos 1
 
-pub record InSpan (body : Body) (start : ℤ) (coefs : List ℤ) (second : ℤ) : Type 0 where
-  pub from-start : start ≤ℤ second
-  pub to-last : second ≤ℤ lastSecond body start coefs
+pub record InSpan (s : Series) (second : ℤ) : Type 0 where
+  pub from-start : (s .start) ≤ℤ second
+  pub to-last : second ≤ℤ lastSecond s
 
--- the segment that has a second, and the second's place in it: (S/H) x (second - middle)
-abbrev pub segmentAt : Body → ℤ → ℤ → ℕ
-segmentAt body start second = distanceFrom start second / segmentLength body
+-- the segment that has a second
+abbrev pub segmentAt : Series → ℤ → ℕ
+segmentAt s second = distanceFrom (s .start) second / segmentLength (s .body)
 
-abbrev pub placeAfter : Body → ℕ → ℤ
-placeAfter body seconds = pos (numbers body .step) *ℤ (pos (seconds % segmentLength body) -ℤ pos (numbers body .halfLength))
+-- "the place of a second in its segment is X = (S/H) x (second - middle)"
+abbrev pub placeAt : Series → ℤ → ℤ
+placeAt s second = pos (numbers (s .body) .step) *ℤ (second -ℤ middleOf s (segmentAt s second))
 
-abbrev pub placeAt : Body → ℤ → ℤ → ℤ
-placeAt body start second = placeAfter body (distanceFrom start second)
-
-unfoldable pub valueAt : Body → ℤ → List ℤ → ℤ → ℤ
-valueAt body start coefs second = value (segment coefs (segmentAt body start second)) (placeAt body start second)
+unfoldable pub valueAt : Series → ℤ → ℤ
+valueAt s second = value (segment (s .coefs) (segmentAt s second)) (placeAt s second)
 
 -- the exact sum, over the common divisor S¹³
-unfoldable pub exactAt : Body → ℤ → List ℤ → ℤ → ℤ
-exactAt body start coefs second = exact (segment coefs (segmentAt body start second)) (placeAt body start second)
+unfoldable pub exactAt : Series → ℤ → ℤ
+exactAt s second = exact (segment (s .coefs) (segmentAt s second)) (placeAt s second)

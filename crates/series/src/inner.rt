@@ -6,8 +6,9 @@ ghost use Prim.Native.Nat.{_/_, _<_};
 ghost use lib.IntN.{pos, _-ℤ_, _*ℤ_};
 ghost use Rattle.whole.specs.Ranges.{Within};
 ghost use Rattle.series.specs.Bodies.{numbers};
-ghost use Rattle.series.specs.Series.{segmentLength, placeAfter, InSpan, lastSecond, valueAt};
+ghost use Rattle.series.specs.Series.{series, segment, segments, segmentLength, InSpan, lastSecond, valueAt};
 ghost use Rattle.series.specs.Acceptance.{Accepted};
+ghost use Rattle.series.specs.theory.Place.{placeAfter};
 
 // H, half the seconds of a segment.
 pub fn half_length(body: Body) -> usize
@@ -20,7 +21,7 @@ pub fn half_length(body: Body) -> usize
 }
 
 // The segment that has the second so many seconds after the start. Each body divides by a constant.
-pub fn segment_after(body: Body, seconds: usize) -> usize
+fn segment_after(body: Body, seconds: usize) -> usize
     ensures { λ r. ⌜ r ≡ seconds / segmentLength body ⌝ }
 {
     match body {
@@ -39,8 +40,8 @@ fn place(step: i64, within: usize, half: i64) -> i64
     step * (within as i64 - half)
 }
 
-// Its place there.
-pub fn place_after(body: Body, seconds: usize) -> i64
+// The place of the second so many seconds after the start.
+fn place_after(body: Body, seconds: usize) -> i64
     ensures { λ r. ⌜ r ≡ placeAfter body seconds ⌝ }
 {
     match body {
@@ -49,27 +50,36 @@ pub fn place_after(body: Body, seconds: usize) -> i64
     }
 }
 
+// The coefficients of segment k: that part of the lent ones.
+pub fn segment_of(coefs: &[i64], k: usize) -> &[i64]
+    requires { ⌜ k < segments (now coefs) ⌝ }
+    ensures { λ r. ⌜ now r ≡ segment (now (coefs .entry)) k ⌝ }
+{
+    let first = 14 * k;
+    let end = first + 14;
+    &coefs[first..end]
+}
+
 // The last second of the span.
-pub fn last_second(body: Body, start: Second, coefs: &[i64]) -> i64
-    requires { ⌜ Accepted body (start .0) (now coefs) ⌝ }
-    ensures { λ r. ⌜ r ≡ lastSecond body (start .0) (now (coefs .entry)) ⌝ }
+pub fn last_second(body: Body, start: Second, coefs: &[i64]) -> Second
+    requires { ⌜ Accepted (series body (start .0) (now coefs)) ⌝ }
+    ensures { λ r. ⌜ r .0 ≡ lastSecond (series body (start .0) (now (coefs .entry))) ⌝ }
 {
     let from = start.0;
     let seconds = 2 * half_length(body) * (coefs.len() / 14);
     let end = whole::inner::add(from, whole::inner::signed(seconds));
-    whole::inner::subtract(end, 1)
+    Second(whole::inner::subtract(end, 1))
 }
 
 // The value at a second of the span.
 pub fn value(body: Body, start: Second, coefs: &[i64], second: Second) -> i64
-    requires { ⌜ Accepted body (start .0) (now coefs) ⌝ }
-    requires { ⌜ InSpan body (start .0) (now coefs) (second .0) ⌝ }
-    ensures { λ r. ⌜ r ≡ valueAt body (start .0) (now (coefs .entry)) (second .0) ⌝ }
+    requires { ⌜ Accepted (series body (start .0) (now coefs)) ⌝ }
+    requires { ⌜ InSpan (series body (start .0) (now coefs)) (second .0) ⌝ }
+    ensures { λ r. ⌜ r ≡ valueAt (series body (start .0) (now (coefs .entry))) (second .0) ⌝ }
 {
     let from = start.0;
     let at = second.0;
     let seconds = whole::inner::distance(from, at);
-    let first = 14 * segment_after(body, seconds);
-    let end = first + 14;
-    chebyshev::inner::value(place_after(body, seconds), &coefs[first..end])
+    let part = segment_of(coefs, segment_after(body, seconds));
+    chebyshev::inner::value(place_after(body, seconds), part)
 }

@@ -2,19 +2,18 @@
 use crate::Body;
 use refusals::Check;
 use refusals::Refusal;
+use times::Second;
 ghost use mathlib.Core.Path.{_≡_};
 ghost use Prim.Native.Nat.{_*_, _-_, _<_, _≤_};
 ghost use lib.ListN.{length};
 ghost use lib.IntN.{pos, _-ℤ_};
-ghost use Rattle.whole.specs.Ranges.{Within};
 ghost use Rattle.chebyshev.specs.Polynomials.{S};
-ghost use Rattle.chebyshev.specs.Segment.{value, slope};
 ghost use Rattle.series.specs.Bodies.{numbers};
 ghost use Rattle.refusals.specs.Verdict.{paperCheck};
 ghost use Rattle.refusals.specs.Search.{firstBad, perSegment};
-ghost use Rattle.series.specs.Series.{segment, segments};
+ghost use Rattle.series.specs.Series.{segments};
 ghost use Rattle.series.specs.Acceptance.{judgedShape, outOfRange, slow, rise, badJoint, limit};
-ghost use Rattle.series.specs.Accepted.{Ranged};
+ghost use Rattle.series.specs.Facts.{Ranged};
 
 // The most coefficients that a series may have.
 fn most(body: Body) -> usize
@@ -27,27 +26,24 @@ fn most(body: Body) -> usize
 }
 
 // 2: the count of coefficients, and the start.
-pub fn shape(body: Body, start: i64, count: usize) -> Check
-    ensures { λ r. ⌜ paperCheck r ≡ judgedShape body start count ⌝ }
+pub fn shape(body: Body, start: Second, count: usize) -> Check
+    ensures { λ r. ⌜ paperCheck r ≡ judgedShape body (start .0) count ⌝ }
 {
-    let refused = Check::Refused(Refusal {
-        number: 2,
-        segment: 0,
-    });
+    let from = start.0;
     if count % 14 != 0 {
-        return refused;
+        return Check::Refused(refusals::SHAPE);
     }
     if count == 0 {
-        return refused;
+        return Check::Refused(refusals::SHAPE);
     }
     if most(body) < count {
-        return refused;
+        return Check::Refused(refusals::SHAPE);
     }
-    if start < -10000000000 {
-        return refused;
+    if from < -10000000000 {
+        return Check::Refused(refusals::SHAPE);
     }
-    if 10000000000 < start {
-        return refused;
+    if 10000000000 < from {
+        return Check::Refused(refusals::SHAPE);
     }
     Check::Accepted
 }
@@ -76,17 +72,6 @@ pub fn ranges(coefs: &[i64]) -> Check
     Check::Accepted
 }
 
-// How fast segment k rises.
-fn slope_of(coefs: &[i64], k: usize) -> i64
-    requires { ⌜ Ranged (now coefs) ⌝ }
-    requires { ⌜ k < segments (now coefs) ⌝ }
-    ensures { λ r. ⌜ r ≡ slope (segment (now (coefs .entry)) k) ⌝ }
-{
-    let first = 14 * k;
-    let end = first + 14;
-    chebyshev::inner::slope(&coefs[first..end])
-}
-
 // Whether segment k rises too slowly.
 fn too_slow(body: Body, coefs: &[i64], k: usize) -> bool
     requires { ⌜ Ranged (now coefs) ⌝ }
@@ -94,7 +79,8 @@ fn too_slow(body: Body, coefs: &[i64], k: usize) -> bool
     ensures { λ r. ⌜ r ≡ slow body (now (coefs .entry)) k ⌝ }
 {
     let least = whole::inner::signed(100 * crate::inner::half_length(body));
-    slope_of(coefs, k) < least
+    let part = crate::inner::segment_of(coefs, k);
+    chebyshev::inner::slope(part) < least
 }
 
 // 4: the first segment that rises too slowly.
@@ -115,18 +101,6 @@ pub fn slopes(body: Body, coefs: &[i64]) -> Check
     Check::Accepted
 }
 
-// The value of segment k at a place.
-fn value_in(coefs: &[i64], k: usize, x: i64) -> i64
-    requires { ⌜ Ranged (now coefs) ⌝ }
-    requires { ⌜ k < segments (now coefs) ⌝ }
-    requires { ⌜ Within S x ⌝ }
-    ensures { λ r. ⌜ r ≡ value (segment (now (coefs .entry)) k) x ⌝ }
-{
-    let first = 14 * k;
-    let end = first + 14;
-    chebyshev::inner::value(x, &coefs[first..end])
-}
-
 // The place of a segment's last second.
 fn last_place(body: Body) -> i64
     ensures { λ r. ⌜ r ≡ pos S -ℤ pos (numbers body .step) ⌝ }
@@ -144,8 +118,10 @@ fn rise_at(body: Body, coefs: &[i64], k: usize) -> i64
     requires { ⌜ k < segments (now coefs) ⌝ }
     ensures { λ r. ⌜ r ≡ rise body (now (coefs .entry)) k ⌝ }
 {
-    let last = value_in(coefs, k - 1, last_place(body));
-    whole::inner::subtract(value_in(coefs, k, -66355200), last)
+    let before = crate::inner::segment_of(coefs, k - 1);
+    let here = crate::inner::segment_of(coefs, k);
+    let last = chebyshev::inner::value(last_place(body), before);
+    whole::inner::subtract(chebyshev::inner::value(-66355200, here), last)
 }
 
 // Whether segment k does not join the one before it.

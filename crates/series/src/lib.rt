@@ -4,7 +4,8 @@ use refusals::Refusal;
 use times::Second;
 ghost use mathlib.Core.Path.{_≡_};
 ghost use Rattle.refusals.specs.Verdict.{paperCheck};
-ghost use Rattle.series.specs.Acceptance.{judged, valueOf, paperValue};
+ghost use Rattle.series.specs.Series.{series};
+ghost use Rattle.series.specs.Acceptance.{seriesJudged, valueOf, paperValue};
 
 pub mod inner;
 mod judging;
@@ -21,10 +22,9 @@ pub enum ValueAnswer {
 
 // Accepts a series, or refuses it by 2, 3, 4 or 5.
 pub fn accept(body: Body, start: Second, coefs: &[i64]) -> Check
-    ensures { λ r. ⌜ paperCheck r ≡ judged body (start .0) (now (coefs .entry)) ⌝ }
+    ensures { λ r. ⌜ paperCheck r ≡ seriesJudged (series body (start .0) (now (coefs .entry))) ⌝ }
 {
-    let from = start.0;
-    let shape = judging::shape(body, from, coefs.len());
+    let shape = judging::shape(body, start, coefs.len());
     if let Check::Refused(r) = shape {
         return Check::Refused(r);
     }
@@ -41,7 +41,7 @@ pub fn accept(body: Body, start: Second, coefs: &[i64]) -> Check
 
 // The value at a second, or a refusal by 2 to 5, or by 6 outside the span.
 pub fn value_at(body: Body, start: Second, coefs: &[i64], second: Second) -> ValueAnswer
-    ensures { λ r. ⌜ paperValue r ≡ valueOf body (start .0) (now (coefs .entry)) (second .0) ⌝ }
+    ensures { λ r. ⌜ paperValue r ≡ valueOf (series body (start .0) (now (coefs .entry))) (second .0) ⌝ }
 {
     let judged = accept(body, start, coefs);
     if let Check::Refused(r) = judged {
@@ -49,15 +49,13 @@ pub fn value_at(body: Body, start: Second, coefs: &[i64], second: Second) -> Val
     }
     let from = start.0;
     let at = second.0;
-    let outside = Refusal {
-        number: 6,
-        segment: 0,
-    };
     if at < from {
-        return ValueAnswer::Refused(outside);
+        return ValueAnswer::Refused(refusals::OUTSIDE);
     }
-    if inner::last_second(body, start, coefs) < at {
-        return ValueAnswer::Refused(outside);
+    let last = inner::last_second(body, start, coefs);
+    let end = last.0;
+    if end < at {
+        return ValueAnswer::Refused(refusals::OUTSIDE);
     }
     ValueAnswer::Value(inner::value(body, start, coefs, second))
 }

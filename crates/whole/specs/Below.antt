@@ -1,7 +1,8 @@
 -- The numbers below a bound: that each of them passes a test (`every`), and the last that does (`lastBelow`). Assumes nothing.
-use Prim.Native.Nat.{ℕ, zero, suc, _<_, _≤_}
+use Prim.Native.Nat.{ℕ, zero, suc, _+_, _<_, _≤_}
 use mathlib.Core.Path.{_≡_, refl, sym, ap, _∙_}
 use mathlib.Core.Bool.{Bool, true, false, cond, _&&_}
+use native.Mathlib.Numerals.{add-one}
 use native.Mathlib.Omega.{arith}
 use native.Mathlib.Decide.{decLt}
 use Rattle.whole.specs.Booleans.{both, second-fails, not-both}
@@ -39,6 +40,14 @@ module _ (f : ℕ → Bool) where
   unfolding every
   every-at zero e i h = absurd (omega arith)
   every-at (suc n) e i h = let b = both (f n) (every f n) e in below i n h (λ l. every-at n (b .1) i l) (λ q. ap f q ∙ b .0)
+
+  -- for a loop: none of the first are left out at 0, and one more passes at each turn
+  pub every-none : every f 0 ≡ true
+  unfolding every
+  every-none = refl
+
+  pub every-next : (n : ℕ) → every f n ≡ true → f n ≡ true → every f (n + 1) ≡ true
+  every-next n e h = ap (every f) (add-one n) ∙ (unfold every in rw (h, e))
 
   -- i is the last below n of which f holds, or 0 where it holds of none
   pub record Last (n i : ℕ) : Type 0 where

@@ -1,16 +1,16 @@
--- How far one whole number lies after another, and the number half way between them. Assumes nothing.
-use mathlib.Core.Path.{_≡_}
+-- How far one whole number lies after another, the number half way between them, and the numbers next to one. Assumes nothing.
+use mathlib.Core.Path.{_≡_, sym, ap, _∙_}
 use mathlib.Core.List.{[], _∷_}
-use Prim.Native.Nat.{ℕ, _+_, _/_, _^_, _≤_, _<_}
+use Prim.Native.Nat.{ℕ, suc, _+_, _/_, _^_, _≤_, _<_}
 use native.Mathlib.Omega.{arith}
 use native.Mathlib.Nat.{div-le-self}
-use lib.IntN.{ℤ, pos, negsuc, natAbs, _+ℤ_, _-ℤ_}
-use lib.Signed.{_≤ℤ_, nonNeg, yes-nonNeg, mag}
+use lib.IntN.{ℤ, pos, negsuc, negℤ, natAbs, _+ℤ_, _-ℤ_}
+use lib.Signed.{_≤ℤ_, _<ℤ_, nonNeg, yes-nonNeg, mag}
 use lib.Dec.{T}
 use mir.Syntax.{w64}
 use mir.Val.{Fits, SFits}
-use Rattle.whole.specs.Parts.{posPart, negPart, ≤→}
-use Rattle.whole.specs.Laws.{abs-of-nonneg}
+use Rattle.whole.specs.Parts.{posPart, negPart, ≤→, →≡, ℤ-rules, parts-add}
+use Rattle.whole.specs.Laws.{abs-of-nonneg, ≤-trans, <→≤}
 use Rattle.whole.specs.Solver.{⇑, ⇓, ring}
 
 abbrev pub distanceFrom : ℤ → ℤ → ℕ
@@ -64,3 +64,41 @@ distance-next {a} {b} h =
     let ρ = a ∷ b ∷ pos (distanceFrom a b) ∷ pos (distanceFrom a (b +ℤ pos 1)) ∷ [] in
     let k : a ≤ℤ (b +ℤ pos 1) = ⇑ ρ (search ring) (omega (arith, ⇓ ρ h (search ring))) in
     omega (arith, ⇓ ρ (distance-is h) (search ring), ⇓ ρ (distance-is k) (search ring))
+
+-- ---- by how far a number lies after another
+
+pub lies-after : {a b : ℤ} → a ≤ℤ b → b ≡ a +ℤ pos (distanceFrom a b)
+lies-after {a} {b} h =
+    let ρ = a ∷ b ∷ pos (distanceFrom a b) ∷ [] in
+    ⇑ ρ (search ring depth 9) (omega (arith, ⇓ ρ (distance-is h) (search ring depth 9)))
+
+pub distance-of : (a b : ℤ) (n : ℕ) → b ≡ a +ℤ pos n → distanceFrom a b ≡ n
+distance-of a b n e = let ρ = a ∷ b ∷ pos n ∷ [] in
+    let d : b -ℤ a ≡ pos n = ⇑ ρ (search ring depth 9) (omega (arith, ⇓ ρ e (search ring depth 9))) in
+    ap natAbs d
+
+pub distances-add : {a b c : ℤ} → a ≤ℤ b → b ≤ℤ c → distanceFrom a c ≡ distanceFrom a b + distanceFrom b c
+distances-add {a} {b} {c} h k =
+    omega (ℤ-rules, lies-after h, lies-after k, lies-after (≤-trans h k), parts-add a (pos (distanceFrom a b)), parts-add b (pos (distanceFrom b c)), parts-add a (pos (distanceFrom a c)))
+
+pub distance-positive : {a b : ℤ} → a <ℤ b → 0 < distanceFrom a b
+distance-positive {a} {b} h = omega (ℤ-rules, lies-after (<→≤ h), parts-add a (pos (distanceFrom a b)))
+
+-- ---- a number and its neighbours
+
+pub clash : {a b : ℤ} → a <ℤ b → b ≤ℤ a → ⊥
+clash {a} {b} h k = omega ℤ-rules
+
+-- n + 1 after a is n after the next
+pub next : (a : ℤ) (n : ℕ) → a +ℤ pos (suc n) ≡ (a +ℤ pos 1) +ℤ pos n
+next a n = →≡ (omega (arith, parts-add a (pos (suc n)), parts-add a (pos 1), parts-add (a +ℤ pos 1) (pos n)))
+
+pub back-one : (a : ℤ) → (a +ℤ pos 1) -ℤ pos 1 ≡ a
+back-one a = →≡ (omega (arith, parts-add a (pos 1), parts-add (a +ℤ pos 1) (negℤ (pos 1))))
+
+-- the numbers one and two before s, as `omega` reads them
+pub one-before : (s : ℤ) → posPart (s -ℤ pos 1) + (negPart s + 1) ≡ posPart s + negPart (s -ℤ pos 1)
+one-before s = omega (arith, parts-add s (negℤ (pos 1)))
+
+pub two-before : (s : ℤ) → posPart (s -ℤ pos 2) + (negPart s + 2) ≡ posPart s + negPart (s -ℤ pos 2)
+two-before s = omega (arith, parts-add s (negℤ (pos 2)))

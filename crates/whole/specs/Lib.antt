@@ -12,3 +12,8 @@ pub mod Evaluated
 pub mod Lists
 pub mod Tests
 pub mod Below
+pub mod Counted
+pub mod Tabulated
+pub mod Found
+pub mod Bounded
+pub mod Lent

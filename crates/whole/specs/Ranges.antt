@@ -118,3 +118,10 @@ ok-fits z h = record { sfits = h }
 
 pub read-back : (z : ℤ) → mag z < 2 ^ 63 → toZ w64 (ofZ w64 z) ≡ z
 read-back z h = toZ-ofZ (ok-fits z h)
+
+-- a signed local holds bits: the range that a call's `.ok` tells of its result, and the result read back from its bits
+pub fits-of : (z : ℤ) → mag z < 2 ^ 63 → SFits w64 z
+fits-of z h = record { sfits = h }
+
+pub back : (z : ℤ) → mag z < 2 ^ 63 → toZ w64 (ofZ w64 z) ≡ z
+back z h = toZ-ofZ (fits-of z h)

@@ -1,12 +1,13 @@
 -- Tests of whole numbers: in a range, and exactly a number; and what a comparison in the code tells of them. Assumes nothing.
 use mathlib.Core.Path.{_≡_, sym}
 use mathlib.Core.Bool.{Bool, true, false, _&&_}
+use mathlib.Core.Logic.{_⊎_, inl, inr, ⊎-elim}
 use lib.IntN.{ℤ}
 use lib.Signed.{leZ, ltZ}
 use Rattle.whole.specs.Parts.{_⩽_, _≺_}
-use Rattle.whole.specs.Laws.{≤-antisymm, ≤-of-≡}
+use Rattle.whole.specs.Laws.{≤-antisymm, ≤-of-≡, ≤-total}
 use Rattle.whole.specs.Solver.{lt-yes, lt-no, yes-lt, no-lt, le-yes, le-no, yes-le, no-le}
-use Rattle.whole.specs.Booleans.{both, first-fails, second-fails, both-hold}
+use Rattle.whole.specs.Booleans.{both, first-fails, second-fails, both-hold, not-both}
 
 -- low ≤ z ≤ high
 abbrev pub inRange : ℤ → ℤ → ℤ → Bool
@@ -40,6 +41,9 @@ module _ (low high z : ℤ) where
 
   pub above-range : high ≺ z → inRange low high z ≡ false
   above-range h = second-fails (leZ low z) (leZ z high) (no-le {a = z} {b = high} h)
+
+  pub out-of-range : inRange low high z ≡ false → (z ≺ low) ⊎ (high ≺ z)
+  out-of-range e = ⊎-elim (λ (h : low ⩽ z). ⊎-elim (λ (k : z ⩽ high). not-both (says-in-range h k) e) inr (≤-total z high)) inl (≤-total low z)
 
 pub exactly-says : (wanted z : ℤ) → isExactly wanted z ≡ true → z ≡ wanted
 exactly-says wanted z e = let r = in-range-says wanted wanted z e in ≤-antisymm (r .1) (r .0)

@@ -13,7 +13,7 @@ use Rattle.whole.specs.Booleans.{not-both}
 use Rattle.whole.specs.Solver.{⇑, ⇓, ring, le-yes, le-no, yes-le}
 use Rattle.whole.specs.Floor.{floorDiv, floorDiv-ge, floorDiv-le, floorDiv-low, floorDiv-high, floorDiv-mono}
 use Rattle.times.specs.declared.Second.{Second}
-use Rattle.clock.specs.Leap.{leapLawful, entries, day, offset, holdsFrom, holds}
+use Rattle.clock.specs.Leap.{leapLawful, day, offset, holdsFrom, holds}
 use Rattle.clock.specs.Clock.{tai, localMilli}
 use Rattle.clock.specs.theory.Table.{offset-is, days-in-order}
 use Rattle.clock.specs.theory.Used.{Used}

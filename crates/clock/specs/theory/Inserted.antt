@@ -1,13 +1,13 @@
 -- An inserted second, its second before and its second after, in UTC+8: entry i is used by the first two and entry i + 1 by the third, and the day of all
 -- three is the UTC day of entry i + 1, eight hours of which are over. Assumes nothing.
 use Prim.Native.Nat.{ℕ, suc, _<_, _≤_}
-use mathlib.Core.Path.{_≡_, ap, _∙_}
-use mathlib.Core.Bool.{true, false}
+use mathlib.Core.Path.{_≡_}
+use mathlib.Core.Bool.{true}
 use mathlib.Core.List.{List, [], _∷_}
 use native.Mathlib.Omega.{arith}
 use lib.IntN.{ℤ, pos, _+ℤ_, _-ℤ_, _*ℤ_}
 use Rattle.whole.specs.Parts.{_⩽_, _≺_}
-use Rattle.whole.specs.Laws.{≤-antisymm, ≤-trans, <-≤-trans, <→≤}
+use Rattle.whole.specs.Laws.{≤-antisymm, ≤-trans, <-≤-trans}
 use Rattle.whole.specs.Solver.{⇑, ⇓, ring, yes-le, no-le}
 use Rattle.whole.specs.Floor.{floorDiv, floorDiv-ge, floorDiv-le}
 use Rattle.times.specs.declared.Day.{Day}

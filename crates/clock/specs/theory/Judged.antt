@@ -1,6 +1,6 @@
 -- What an accepted table and second are known to be, and what an answer tells. Assumes nothing.
 use mathlib.Core.Path.{_≡_, refl, sym}
-use mathlib.Core.Bool.{Bool, true, false, not}
+use mathlib.Core.Bool.{true, false, not}
 use mathlib.Core.List.{List}
 use borrow.Author.Tests.{not-false}
 use lib.IntN.{ℤ}

@@ -16,25 +16,28 @@ use Rattle.whole.specs.Solver.{⇑, ⇓, ring, lt-yes}
 use Rattle.whole.specs.Booleans.{both}
 use Rattle.whole.specs.Tests.{inRange, isExactly, in-range-says, exactly-says}
 use Rattle.whole.specs.Below.{every, every-at}
-use Rattle.clock.specs.Leap.{utcDay, day, offset, firstEntry, nextEntry, goodEntry, leapLawful, entries, holdsFrom}
+use Rattle.clock.specs.Leap.{utcDay, day, offset, firstEntry, nextEntry, goodEntry, wholePairs, leapLawful, entries, holdsFrom}
 
 module _ (w : List ℤ) (l : leapLawful w ≡ true) where
-  parts : (eqb (length w % 2) 0 ≡ true) × ((leb 2 (length w) ≡ true) × ((leb (length w) 128 ≡ true) × (every (goodEntry w) (entries w) ≡ true)))
+  parts : (wholePairs (length w) ≡ true) × (every (goodEntry w) (entries w) ≡ true)
   unfolding leapLawful
-  parts =
-      let a = both (eqb (length w % 2) 0) (leb 2 (length w) && (leb (length w) 128 && every (goodEntry w) (entries w))) l in
-      let b = both (leb 2 (length w)) (leb (length w) 128 && every (goodEntry w) (entries w)) (a .1) in
-      let c = both (leb (length w) 128) (every (goodEntry w) (entries w)) (b .1) in
-      (a .0, (b .0, c))
+  parts = both (wholePairs (length w)) (every (goodEntry w) (entries w)) l
+
+  counts : (2 ≤ length w) × (length w ≤ 128)
+  unfolding wholePairs
+  counts =
+      let a = both (eqb (length w % 2) 0) (leb 2 (length w) && leb (length w) 128) (parts .0) in
+      let b = both (leb 2 (length w)) (leb (length w) 128) (a .1) in
+      (leb-true 2 (length w) (b .0), leb-true (length w) 128 (b .1))
 
   pub some : 0 < entries w
-  some = omega (arith, leb-true 2 (length w) (parts .1 .0))
+  some = omega (arith, counts .0)
 
   pub few : entries w ≤ 64
-  few = omega (arith, leb-true (length w) 128 (parts .1 .1 .0))
+  few = omega (arith, counts .1)
 
   good : (i : ℕ) → i < entries w → goodEntry w i ≡ true
-  good i h = every-at (goodEntry w) (entries w) (parts .1 .1 .1) i h
+  good i h = every-at (goodEntry w) (entries w) (parts .1) i h
 
   first-good : firstEntry (day w 0) (offset w 0) ≡ true
   unfolding goodEntry

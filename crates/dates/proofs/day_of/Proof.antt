@@ -1,73 +1,78 @@
 -- `dates::day_of` meets its contract. Assumes nothing.
-use native.Mathlib.Omega.{arith}
-use mathlib.Core.List.{[], _∷_}
-use Rattle.whole.specs.Solver.{⇑, ⇓, ring}
-use Rattle.dates.specs.Answers.{hasDate}
-use Rattle.dates.specs.Calendar.{valid}
-use Rattle.dates.proofs.Refused.{too-early, too-late, no-date, no-day, day-found}
 use mathlib.Core.Path.{_≡_, sym, ap, _∙_}
-use mathlib.Core.Bool.{false}
-use lib.IntN.{pos}
-use lib.Signed.{ltZ}
+use mathlib.Core.Bool.{true}
+use mathlib.Core.List.{[], _∷_}
+use native.Mathlib.Omega.{arith}
 use borrow.Author.Needs.{needs}
 use borrow.Author.Tests.{not-true, not-false}
-use mir.Syntax.{w64}
-use mir.Val.{SFits}
-use mir.Facts.{toZ-ofZ}
+use lib.IntN.{pos}
+use Rattle.whole.specs.Ranges.{read-back}
+use Rattle.whole.specs.Solver.{⇑, ⇓, ring}
+use Rattle.whole.specs.Tests.{inRange, in-range-says}
+use Rattle.dates.specs.Answers.{hasDate}
+use Rattle.dates.specs.Calendar.{valid}
+use Rattle.dates.specs.theory.Judged.{refused-outside-1500-to-2600, no-date, no-day, day-found}
 use Rattle.dates.proofs.day_of.Statement.{statement}
 use Rattle.dates.proofs.day_of.Tie as tie
 
-returns : tie.Need-returns
-returns c =
-    let date = c .before .before .args .date in
-    let y : SFits w64 (date .year) = search needs in
-    too-early date (rw (toZ-ofZ y) at (c .if1 .taken))
+-- ---- what each call gives
+at-year : (c : tie.After-in-range) → inRange (pos 1500) (pos 2600) (c .before .before .args .date .year) ≡ c .in-range .result
+at-year c =
+    let told = c .before in
+    sym (rw (read-back (told .before .args .date .year) (told .struct-told .given .0 .1)) at (c .in-range .ensures))
 
-returns-2 : tie.Need-returns-2
-returns-2 c =
-    let date = c .before .before .before .args .date in
-    let y : SFits w64 (date .year) = search needs in
-    too-late date (rw (toZ-ofZ y) at (c .if2 .taken))
+a-date : (c : tie.Else2) → valid (c .before .before .before .before .before .args .date) ≡ true
+a-date c = sym (c .before .valid .ensures) ∙ not-false (c .before .valid .result) (c .if2 .left)
+
+-- ---- the needs
+in-range-requires : tie.Need-in-range-requires
+in-range-requires c κs = search needs
+
+returns : tie.Need-returns
+returns c = refused-outside-1500-to-2600 (c .before .before .before .args .date) (at-year (c .before) ∙ not-true (c .before .in-range .result) (c .if1 .taken))
 
 valid-requires : tie.Need-valid-requires
 valid-requires c κs = search needs
 
-returns-3 : tie.Need-returns-3
-returns-3 c = let t = not-true (c .before .valid .result) (c .if3 .taken) in no-date (c .before .before .before .before .before .args .date) (sym (c .before .valid .ensures) ∙ t)
+returns-2 : tie.Need-returns-2
+returns-2 c =
+    let date = c .before .before .before .before .before .args .date in
+    no-date date (sym (c .before .valid .ensures) ∙ not-true (c .before .valid .result) (c .if2 .taken))
 
 day-number-requires : tie.Need-day-number-requires
 day-number-requires c κs =
-    let date = c .before .before .before .before .before .args .date in
-    let y : SFits w64 (date .year) = search needs in
-    let t = not-false (c .before .valid .result) (c .if3 .left) in
-    let p : ltZ (date .year) (pos 1500) ≡ false = rw (toZ-ofZ y) at (c .before .before .before .if1 .left) in
-    let q : ltZ (pos 2600) (date .year) ≡ false = rw (toZ-ofZ y) at (c .before .before .if2 .left) in
-    let ρ = date .year ∷ [] in
-    (sym (c .before .valid .ensures) ∙ t, record { within = ⇑ ρ (search ring) (omega (arith, ⇓ ρ p (search ring), ⇓ ρ q (search ring))) })
+    let year = c .before .before in
+    let y = year .before .before .before .args .date .year in
+    let r = in-range-says (pos 1500) (pos 2600) y (at-year (year .before) ∙ not-false (year .before .in-range .result) (year .if1 .left)) in
+    let ρ = y ∷ [] in
+    (a-date c, record { within = ⇑ ρ (search ring) (omega (arith, ⇓ ρ (r .0) (search ring), ⇓ ρ (r .1) (search ring))) })
 
 has-date-requires : tie.Need-has-date-requires
 has-date-requires c κs = search needs
 
+returns-3 : tie.Need-returns-3
+returns-3 c =
+    let judged = c .before in
+    let day = judged .before in
+    let date = day .before .before .before .before .before .before .args .date in
+    no-day date (ap hasDate (sym (day .day-number .ensures)) ∙ sym (judged .has-date .ensures) ∙ not-true (judged .has-date .result) (c .if3 .taken))
+
 returns-4 : tie.Need-returns-4
 returns-4 c =
-    let t = not-true (c .before .has-date .result) (c .if4 .taken) in
-    no-day (c .before .before .before .before .before .before .before .before .args .date) (ap hasDate (sym (c .before .before .day-number .ensures)) ∙ sym (c .before .has-date .ensures) ∙ t)
-
-returns-5 : tie.Need-returns-5
-returns-5 c =
-    let t = not-false (c .before .has-date .result) (c .if4 .left) in
-    let v = not-false (c .before .before .before .before .valid .result) (c .before .before .before .if3 .left) in
-    day-found (c .before .before .before .before .before .before .before .before .args .date) (c .before .before .day-number .result) (sym (c .before .before .before .before .valid .ensures) ∙ v) (sym (c .before .has-date .ensures) ∙ t) (c .before .before .day-number .ensures)
+    let judged = c .before in
+    let day = judged .before in
+    let date = day .before .before .before .before .before .before .args .date in
+    day-found date (day .day-number .result) (a-date (day .before)) (sym (judged .has-date .ensures) ∙ not-false (judged .has-date .result) (c .if3 .left)) (day .day-number .ensures)
 
 pub day-of-spec : {M : Type 1} → statement M
 day-of-spec =
     tie.close
     (tie.spec
+    in-range-requires
     returns
-    returns-2
     valid-requires
-    returns-3
+    returns-2
     day-number-requires
     has-date-requires
-    returns-4
-    returns-5)
+    returns-3
+    returns-4)

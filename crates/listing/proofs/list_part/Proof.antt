@@ -8,7 +8,7 @@ use lib.Seq.{take-at}
 use mathlib.Core.List.{List, _++_}
 use mathlib.Core.Path.{_≡_, sym, ap, _∙_}
 use native.Mathlib.Omega.{arith}
-use Rattle.listing.specs.Listing.{linesOfBytes, linesOfWords, printed}
+use Rattle.listing.specs.Listing.{listedBytes, listedWords, printed}
 use Rattle.refusals.specs.Verdict.{refused}
 use Rattle.words.specs.Words.{words, words-length}
 use Rattle.listing.proofs.list_part.Statement.{statement}
@@ -19,16 +19,16 @@ read : (input : List ℕ) (n : ℕ) (rest last : List ℤ) → last ≡ words in
 read input n rest last e = rw e (take-at (words input n) (drop n rest) n (words-length input n))
 
 -- the three cases of the definition
-too-long : (input : List ℕ) → 65536 < length input → linesOfBytes input ≡ refused 13 0
-unfolding linesOfBytes
+too-long : (input : List ℕ) → 65536 < length input → listedBytes input ≡ refused 13 0
+unfolding listedBytes
 too-long input h = rw (lt-ltb 65536 (length input) h)
 
-not-in-words : (input : List ℕ) → length input ≤ 65536 → (length input % 8 ≡ 0 → ⊥) → linesOfBytes input ≡ refused 13 0
-unfolding linesOfBytes
+not-in-words : (input : List ℕ) → length input ≤ 65536 → (length input % 8 ≡ 0 → ⊥) → listedBytes input ≡ refused 13 0
+unfolding listedBytes
 not-in-words input h e = rw (le-ltb 65536 (length input) h, ne-eqb (length input % 8) 0 e)
 
-in-words : (input : List ℕ) → length input ≤ 65536 → length input % 8 ≡ 0 → linesOfBytes input ≡ linesOfWords (words input (length input / 8))
-unfolding linesOfBytes
+in-words : (input : List ℕ) → length input ≤ 65536 → length input % 8 ≡ 0 → listedBytes input ≡ listedWords (words input (length input / 8))
+unfolding listedBytes
 in-words input h e = rw (le-ltb 65536 (length input) h, eq-eqb (length input % 8) 0 e)
 
 put-refusal-requires : tie.Need-put-refusal-requires

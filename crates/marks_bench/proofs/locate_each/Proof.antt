@@ -13,6 +13,7 @@ use mir.Syntax.{w64}
 use mir.Val.{toZ}
 use mir.Facts.{toZ-ofZ}
 use Rattle.whole.specs.Parts.{ℤ-rules, parts-add}
+use Rattle.series.specs.Series.{series}
 use Rattle.marks.specs.Listed.{secondOfMark}
 use Rattle.marks_bench.specs.Places.{Located}
 use Rattle.marks_bench.proofs.locate_each.Statement.{statement}
@@ -33,7 +34,7 @@ not-beyond : (a b : ℤ) (i n : ℕ) → i < n → (a +ℤ pos n) ≤ℤ b → (
 not-beyond a b i n l h = let p = parts-add a (pos n) in let q = parts-add a (pos (i + 1)) in omega ℤ-rules
 
 abbrev Inv-loop : tie.InvT-loop
-Inv-loop body start coefs lowest highest n out₀ i₀ out i = (i ≤ n) × Located (secondOfMark body (start .0) coefs) (toZ w64 lowest) i out₀ out
+Inv-loop body start coefs lowest highest n out₀ i₀ out i = (i ≤ n) × Located (secondOfMark (series body (start .0) coefs)) (toZ w64 lowest) i out₀ out
 
 abbrev μ-loop : tie.MeasureT-loop
 μ-loop body start coefs lowest highest n out₀ i₀ out i = n - i
@@ -48,11 +49,11 @@ locate-nth-requires c κs =
     rw (toZ-ofZ (start .fits .lowest), toZ-ofZ (start .fits .highest))
     (start .pre .0, (start .pre .1 .0, (start .pre .1 .1 .0, (not-beyond (start .args .lowest) (start .args .highest) (c .before .loop .i) (start .args .n) (omega arith) (start .pre .1 .1 .1 .0), room))))
 
-mul-t11 : tie.Need-mul-t11 Inv-loop μ-loop
-mul-t11 c = search needs
+mul-found : tie.Need-mul-found Inv-loop μ-loop
+mul-found c = search needs
 
-slice-set-from-out : tie.Need-slice-set-from-out Inv-loop μ-loop
-slice-set-from-out c = search needs
+slice-set-from-found : tie.Need-slice-set-from-found Inv-loop μ-loop
+slice-set-from-found c = search needs
 
 add-i : tie.Need-add-i Inv-loop μ-loop
 add-i c = search needs
@@ -62,9 +63,9 @@ loop-less c = search needs
 
 loop-again : tie.Need-loop-again Inv-loop μ-loop
 loop-again c =
-    let loop = c .before .before in
+    let loop = c .before .before .before in
     let start = loop .before in
-    (omega arith, one-more (loop .loop .i) _ (loop .loop .inv .1) (omega arith) (toZ-ofZ (record { sfits = c .locate-nth .ok }) ∙ c .locate-nth .ensures))
+    (omega arith, one-more (loop .loop .i) _ (loop .loop .inv .1) (omega arith) (toZ-ofZ (record { sfits = c .struct-told .given .0 .1 }) ∙ c .before .locate-nth .ensures))
 
 same-length : tie.Need-same-length Inv-loop μ-loop
 same-length c = search needs
@@ -83,8 +84,8 @@ locate-each-spec =
     μ-loop
     loop-holds
     locate-nth-requires
-    mul-t11
-    slice-set-from-out
+    mul-found
+    slice-set-from-found
     add-i
     loop-less
     loop-again

@@ -45,8 +45,8 @@ locate-requires c κs =
 
 returns : tie.Need-returns
 returns c =
-    let there = c .before .before in
-    toZ-ofZ (record { sfits = c .struct-told .given .0 .1 }) ∙ (rw (toZ-ofZ (record { sfits = there .add .ok }), at-index there) at (c .before .locate .ensures))
+    let there = c .before in
+    rw (toZ-ofZ (record { sfits = there .add .ok }), at-index there) at (c .locate .ensures)
 
 pub locate-nth-spec : {M : Type 1} → statement M
 locate-nth-spec =

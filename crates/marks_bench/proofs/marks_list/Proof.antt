@@ -1,21 +1,12 @@
 -- `marks_bench::marks_list` meets its contract. Assumes nothing.
 use borrow.Author.Needs.{needs}
-use mathlib.Core.Bool.{Bool, true, false}
 use mathlib.Core.Path.{_≡_, sym, ap, _∙_}
-use mathlib.Core.List.{List}
-use Prim.Native.Nat.{ℕ, _*_, _≤_}
 use native.Mathlib.Omega.{arith}
-use borrow.Author.Tests.{ltb-false}
-use lib.Dec.{ltb}
-use lib.IntN.{ℤ}
 use lib.ListN.{length}
 use mir.Facts.{toZ-ofZ}
-use Rattle.refusals.specs.Verdict.{Verdict, answered, refused, refuseWhen, _before_}
-use Rattle.series.specs.Acceptance.{judged}
-use Rattle.series.specs.declared.Body.{Body}
-use Rattle.marks.specs.Words.{words, words-length}
-use Rattle.marks.specs.Listed.{listedMarks}
+use Rattle.series.specs.Series.{series}
 use Rattle.marks.specs.Answers.{listedInto, paperList}
+use Rattle.marks.specs.Theorems.{listed-only-when}
 use Rattle.marks_bench.specs.Answer.{bodyOf, answerWord}
 use Rattle.marks_bench.proofs.marks_list.Statement.{statement}
 use Rattle.marks_bench.proofs.marks_list.Tie as tie
@@ -29,24 +20,10 @@ use Rattle.whole.proofs.inner.signed.Reads as signed-reads
 abbrev called : lts.Claims
 called = (body-of-reads.Asked, body-of-reads.Learnt, list-marks-reads.Asked, list-marks-reads.Learnt, signed-reads.Asked, signed-reads.Learnt, minus-reads.Asked, minus-reads.Learnt)
 
--- what is listed has room, two words to a mark
-room-for : (judgement : Verdict (Unit {0})) (room filled count n : ℕ) → filled ≡ 2 * count → judgement before refuseWhen (ltb room filled) 12 before answered count ≡ answered n → 2 * n ≤ room
-room-for (answered tt) room filled count n two e = go (ltb room filled) (ltb-false room filled) e
-  where
-    go : (short : Bool) → (short ≡ false → filled ≤ room) → refuseWhen short 12 before answered count ≡ answered n → 2 * n ≤ room
-    go true f e = let z : _≡_ {A = ℕ} 0 1 = cc in absurd (omega arith)
-    go false f e = let z : count ≡ n = cc in let l = f cc in omega arith
-room-for (refused number segment) room filled count n two e = let z : _≡_ {A = ℕ} 0 1 = cc in absurd (omega arith)
-
-listed-room : (body : Body) (start : ℤ) (coefs : List ℤ) (room n : ℕ) → listedInto body start coefs room ≡ answered n → 2 * n ≤ room
-listed-room body start coefs room n =
-    let listed = listedMarks body start coefs in
-    room-for (judged body start coefs) room (length (words listed)) (length listed) n (words-length listed)
-
 -- what the finder said, in this function's own words
 at-listed : (c : lts.After-list-marks called reads.Pre reads.Post) →
     (let start = c .before .before .before in
-    paperList (c .list-marks .result) ≡ listedInto (bodyOf (start .args .moon)) (start .args .start) (start .args .coefs .now) (length (start .args .out .now)))
+    paperList (c .list-marks .result) ≡ listedInto (series (bodyOf (start .args .moon)) (start .args .start) (start .args .coefs .now)) (length (start .args .out .now)))
 at-listed c = (rw (c .before .before .body-of .ensures, toZ-ofZ (c .before .before .before .fits .start)) at (c .list-marks .ensures)) .0
 
 body-of-requires : tie.Need-body-of-requires
@@ -62,7 +39,7 @@ signed-requires : tie.Need-signed-requires
 signed-requires c κs =
     let there = c .before .before .before .before in
     let start = there .before .before .before in
-    let least = listed-room (bodyOf (start .args .moon)) (start .args .start) (start .args .coefs .now) (length (start .args .out .now)) (c .before .n .given .0 .0) (sym (at-listed there) ∙ ap paperList (c .before .n .given .1)) in
+    let least = listed-only-when (series (bodyOf (start .args .moon)) (start .args .start) (start .args .coefs .now)) (length (start .args .out .now)) (c .before .n .given .0 .0) (sym (at-listed there) ∙ ap paperList (c .before .n .given .1)) .has-room in
     omega arith
 
 enum-known-r : tie.Need-enum-known-r

@@ -12,8 +12,8 @@ utc-day-requires c κs = search needs
 in-range-requires : tie.Need-in-range-requires
 in-range-requires c κs = search needs
 
-at-day : (c : tie.After-utc-day) → utcDay (c .before .args .day) ≡ c .utc-day .result
-at-day c = sym (rw (toZ-ofZ (c .before .fits .day)) at (c .utc-day .ensures))
+at-day : (c : tie.After-utc-day) → utcDay (c .before .args .day .0) ≡ c .utc-day .result
+at-day c = sym (c .utc-day .ensures)
 
 returns : tie.Need-returns
 unfolding firstEntry

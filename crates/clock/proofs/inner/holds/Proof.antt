@@ -1,12 +1,7 @@
 -- `clock::inner::holds` meets its contract. Assumes nothing.
-use lib.Signed.{leZ}
-use Rattle.clock.specs.Leap.{holds}
-use mathlib.Core.Path.{ap}
-use lib.IntN.{ℤ}
 use borrow.Author.Needs.{needs}
-use mir.Syntax.{w64}
-use mir.Val.{SFits}
-use mir.Facts.{toZ-ofZ}
+use Rattle.whole.specs.Ranges.{read-back}
+use Rattle.clock.specs.Leap.{holds}
 use Rattle.clock.proofs.inner.holds.Statement.{statement}
 use Rattle.clock.proofs.inner.holds.Tie as tie
 
@@ -16,9 +11,9 @@ holds-from-requires c κs = search needs
 returns : tie.Need-returns
 unfolding holds
 returns c =
-    let f : SFits w64 (c .before .args .t) = search needs in
-    let g : SFits w64 (c .holds-from .result) = search needs in
-    rw (toZ-ofZ g, toZ-ofZ f) (ap (λ (z : ℤ). leZ z (c .before .args .t)) (c .holds-from .ensures))
+    let told = c .before .before in
+    let from = told .before .before in
+    rw (read-back (from .holds-from .result .0) (told .struct-told .given .0 .1), from .holds-from .ensures, read-back (from .before .args .t .0) (c .struct-told2 .given .0 .1))
 
 pub holds-spec : {M : Type 1} → statement M
 holds-spec = tie.close (tie.spec holds-from-requires returns)

@@ -8,26 +8,26 @@ use Rattle.clock.specs.theory.Table.{day-small, offset-small}
 use Rattle.clock.proofs.inner.holds_from.Statement.{statement}
 use Rattle.clock.proofs.inner.holds_from.Tie as tie
 
+mul-t3 : tie.Need-mul-t3
+mul-t3 c = search needs
+
+mul-t4 : tie.Need-mul-t4
+mul-t4 c = search needs
+
+shared-slice-copy-out-t6 : tie.Need-shared-slice-copy-out-t6
+shared-slice-copy-out-t6 c = search needs
+
 mul-moment-of : tie.Need-mul-moment-of
 mul-moment-of c = search needs
+
+add-moment-of : tie.Need-add-moment-of
+add-moment-of c = search needs
 
 mul-moment-of-2 : tie.Need-mul-moment-of-2
 mul-moment-of-2 c = search needs
 
 shared-slice-copy-out-moment-of : tie.Need-shared-slice-copy-out-moment-of
 shared-slice-copy-out-moment-of c = search needs
-
-mul-moment-of-3 : tie.Need-mul-moment-of-3
-mul-moment-of-3 c = search needs
-
-add-moment-of : tie.Need-add-moment-of
-add-moment-of c = search needs
-
-mul-moment-of-4 : tie.Need-mul-moment-of-4
-mul-moment-of-4 c = search needs
-
-shared-slice-copy-out-moment-of-2 : tie.Need-shared-slice-copy-out-moment-of-2
-shared-slice-copy-out-moment-of-2 c = search needs
 
 moment-of-requires : tie.Need-moment-of-requires
 moment-of-requires c κs =
@@ -42,22 +42,20 @@ returns : tie.Need-returns
 unfolding holdsFrom
 returns c =
     let start = c .before .before .before in
-    let w = start .args .leap .now in
-    let d : SFits w64 (day w (start .args .i)) = search needs in
-    let o : SFits w64 (offset w (start .args .i)) = search needs in
-    let f : SFits w64 (c .moment-of .result) = search needs in
-    rw (toZ-ofZ f) (rw (toZ-ofZ d, toZ-ofZ o) at (c .moment-of .ensures))
+    let d : SFits w64 (day (start .args .leap .now) (start .args .i)) = search needs in
+    let o : SFits w64 (offset (start .args .leap .now) (start .args .i)) = search needs in
+    rw (toZ-ofZ d, toZ-ofZ o) at (c .moment-of .ensures)
 
 pub holds-from-spec : {M : Type 1} → statement M
 holds-from-spec =
     tie.close
     (tie.spec
+    mul-t3
+    mul-t4
+    shared-slice-copy-out-t6
     mul-moment-of
+    add-moment-of
     mul-moment-of-2
     shared-slice-copy-out-moment-of
-    mul-moment-of-3
-    add-moment-of
-    mul-moment-of-4
-    shared-slice-copy-out-moment-of-2
     moment-of-requires
     returns)

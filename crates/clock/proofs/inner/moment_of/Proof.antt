@@ -1,24 +1,22 @@
 -- `clock::inner::moment_of` meets its contract. Assumes nothing.
-use mathlib.Core.Path.{refl}
-use mathlib.Core.List.{[], _∷_}
-use Rattle.whole.specs.Ranges.{fits, bounds, bound-back}
-use Rattle.whole.specs.Solver.{⇑, ring, value-of}
+use mir.Facts.{toZ-ofZ}
+use Rattle.whole.specs.Ranges.{fits, bounds, bound-back, read-back}
 use Rattle.clock.proofs.inner.moment_of.Statement.{statement}
 use Rattle.clock.proofs.inner.moment_of.Tie as tie
 
-mul-result : tie.Need-mul-result
-mul-result c = fits (search bounds) tt
+mul-t4 : tie.Need-mul-t4
+mul-t4 c = fits (search bounds) tt
 
-add-result : tie.Need-add-result
-add-result c = fits (search (bounds, bound-back (mul-result c))) tt
+add-t5 : tie.Need-add-t5
+add-t5 c = fits (search (bounds, bound-back (mul-t4 c))) tt
 
-mul-result-2 : tie.Need-mul-result-2
-mul-result-2 c = fits (search (bounds, bound-back (mul-result c), bound-back (add-result c)) depth 9) tt
+mul-t6 : tie.Need-mul-t6
+mul-t6 c = fits (search (bounds, bound-back (mul-t4 c), bound-back (add-t5 c)) depth 9) tt
 
 returns : tie.Need-returns
 returns c =
-    let ρ = c .args .day ∷ c .args .offset ∷ [] in
-    ⇑ ρ (search (ring, value-of ρ (mul-result c), value-of ρ (add-result c), value-of ρ (mul-result-2 c)) depth 12) refl
+    let start = c .before in
+    rw (toZ-ofZ (mul-t6 c), toZ-ofZ (add-t5 c), toZ-ofZ (mul-t4 c), read-back (start .args .day .0) (c .struct-told .given .0 .1), toZ-ofZ (start .fits .offset))
 
 pub moment-of-spec : {M : Type 1} → statement M
-moment-of-spec = tie.close (tie.spec mul-result add-result mul-result-2 returns)
+moment-of-spec = tie.close (tie.spec mul-t4 add-t5 mul-t6 returns)

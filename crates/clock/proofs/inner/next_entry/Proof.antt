@@ -1,10 +1,12 @@
 -- `clock::inner::next_entry` meets its contract. Assumes nothing.
 use mathlib.Core.Path.{_≡_, sym, _∙_}
-use mathlib.Core.Bool.{true, false}
 use borrow.Author.Needs.{needs}
 use borrow.Author.Tests.{not-true, not-false}
-use lib.Signed.{ltZ}
+use lib.Signed.{leZ}
+use mir.Syntax.{w64}
+use mir.Val.{toZ, ofZ}
 use mir.Facts.{toZ-ofZ}
+use Rattle.whole.specs.Ranges.{read-back}
 use Rattle.whole.specs.Tests.{less, not-less}
 use Rattle.clock.specs.Leap.{utcDay, nextEntry}
 use Rattle.clock.proofs.inner.next_entry.Statement.{statement}
@@ -13,20 +15,29 @@ use Rattle.clock.proofs.inner.next_entry.Tie as tie
 utc-day-requires : tie.Need-utc-day-requires
 utc-day-requires c κs = search needs
 
-at-day : (c : tie.After-utc-day) → utcDay (c .before .args .day) ≡ c .utc-day .result
-at-day c = sym (rw (toZ-ofZ (c .before .fits .day)) at (c .utc-day .ensures))
+at-day : (c : tie.After-utc-day) → utcDay (c .before .args .day .0) ≡ c .utc-day .result
+at-day c = sym (c .utc-day .ensures)
 
 returns : tie.Need-returns
 unfolding nextEntry
 returns c = rw (at-day (c .before) ∙ not-true (c .before .utc-day .result) (c .if1 .taken))
 
+-- the days, as they are read
+at-days : (c : tie.After-struct-told2) →
+    (let start = c .before .before .before .before .before .before in
+    leZ (toZ w64 (ofZ w64 (start .args .day .0))) (toZ w64 (ofZ w64 (start .args .d .0))) ≡ leZ (start .args .day .0) (start .args .d .0))
+at-days c =
+    let told = c .before .before in
+    let start = told .before .before .before .before in
+    rw (read-back (start .args .day .0) (told .struct-told .given .0 .1), read-back (start .args .d .0) (c .struct-told2 .given .0 .1))
+
 returns-2 : tie.Need-returns-2
 unfolding nextEntry
 returns-2 c =
-    let judged = c .before .before in
-    let start = judged .before in
-    let stays : ltZ (start .args .d) (start .args .day) ≡ false = not-less (start .args .d) (start .args .day) (rw (toZ-ofZ (start .fits .day), toZ-ofZ (start .fits .d)) at (c .if2 .taken)) in
-    rw (at-day judged ∙ not-false (judged .utc-day .result) (c .before .if1 .left), stays)
+    let told = c .before in
+    let kept = told .before .before .before .before in
+    let start = kept .before .before in
+    rw (at-day (kept .before) ∙ not-false (kept .before .utc-day .result) (kept .if1 .left), not-less (start .args .d .0) (start .args .day .0) (sym (at-days told) ∙ c .if2 .taken))
 
 one-more-requires : tie.Need-one-more-requires
 one-more-requires c κs = search needs
@@ -34,10 +45,11 @@ one-more-requires c κs = search needs
 returns-3 : tie.Need-returns-3
 unfolding nextEntry
 returns-3 c =
-    let judged = c .before .before .before in
-    let start = judged .before in
-    let rises : ltZ (start .args .d) (start .args .day) ≡ true = less (start .args .d) (start .args .day) (rw (toZ-ofZ (start .fits .day), toZ-ofZ (start .fits .d)) at (c .before .if2 .left)) in
-    rw (at-day judged ∙ not-false (judged .utc-day .result) (c .before .before .if1 .left), rises) (rw (toZ-ofZ (start .fits .o), toZ-ofZ (start .fits .offset)) at (c .one-more .ensures))
+    let told = c .before .before in
+    let kept = told .before .before .before .before in
+    let start = kept .before .before in
+    rw (at-day (kept .before) ∙ not-false (kept .before .utc-day .result) (kept .if1 .left), less (start .args .d .0) (start .args .day .0) (sym (at-days told) ∙ c .before .if2 .left))
+    (rw (toZ-ofZ (start .fits .o), toZ-ofZ (start .fits .offset)) at (c .one-more .ensures))
 
 pub next-entry-spec : {M : Type 1} → statement M
 next-entry-spec = tie.close (tie.spec utc-day-requires returns returns-2 one-more-requires returns-3)

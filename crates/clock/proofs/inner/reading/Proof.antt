@@ -18,11 +18,8 @@ tai-of-requires : tie.Need-tai-of-requires
 tai-of-requires c κs = search needs
 
 -- ---- what each call gives
-at-tai : (c : tie.After-tai-of) → toZ w64 (ofZ w64 (c .tai-of .result)) ≡ tai (c .before .args .second)
-at-tai c = read-back (c .tai-of .result) (c .tai-of .ok) ∙ c .tai-of .ensures
-
 at-entry : (c : tie.After-entry-used) → (let start = c .before .before in c .entry-used .result ≡ entryUsed (start .args .leap .now) (tai (start .args .second)))
-at-entry c = rw (at-tai (c .before)) at (c .entry-used .ensures)
+at-entry c = rw (c .before .tai-of .ensures) at (c .entry-used .ensures)
 
 at-offset : (c : tie.After-offset-at) → (let start = c .before .before .before in toZ w64 (ofZ w64 (c .offset-at .result)) ≡ offset (start .args .leap .now) (entryUsed (start .args .leap .now) (tai (start .args .second))))
 at-offset c = read-back (c .offset-at .result) (c .offset-at .ok) ∙ (rw (at-entry (c .before)) at (c .offset-at .ensures))
@@ -31,7 +28,7 @@ at-offset c = read-back (c .offset-at .result) (c .offset-at .ok) ∙ (rw (at-en
 entry-used-requires : tie.Need-entry-used-requires
 entry-used-requires c κs =
     let start = c .before in
-    rw (at-tai c) (start .pre .lawful-table, first-holds (start .args .leap .now) (start .args .second) (start .pre .not-early))
+    rw (c .tai-of .ensures) (start .pre .lawful-table, first-holds (start .args .leap .now) (start .args .second) (start .pre .not-early))
 
 offset-at-requires : tie.Need-offset-at-requires
 offset-at-requires c κs =
@@ -41,13 +38,13 @@ offset-at-requires c κs =
 local-milli-requires : tie.Need-local-milli-requires
 local-milli-requires c κs =
     let start = c .before .before .before in
-    rw (at-tai (c .before .before), at-offset c, toZ-ofZ (start .fits .zone)) (tai-small (start .args .second) (start .pre .in-range), (offset-used-small (start .args .leap .now) (tai (start .args .second)) (start .pre .lawful-table), start .pre .zone-small))
+    rw (c .before .before .tai-of .ensures, at-offset c, toZ-ofZ (start .fits .zone)) (tai-small (start .args .second) (start .pre .in-range), (offset-used-small (start .args .leap .now) (tai (start .args .second)) (start .pre .lawful-table), start .pre .zone-small))
 
 returns : tie.Need-returns
 unfolding reading
 returns c =
     let start = c .before .before .before .before in
-    let read = rw (at-tai (c .before .before .before), at-offset (c .before), toZ-ofZ (start .fits .zone)) at (c .local-milli .ensures) in
+    let read = rw (c .before .before .before .tai-of .ensures, at-offset (c .before), toZ-ofZ (start .fits .zone)) at (c .local-milli .ensures) in
     λ t. record { milli = read t; inserted = false }
 
 pub reading-spec : {M : Type 1} → statement M

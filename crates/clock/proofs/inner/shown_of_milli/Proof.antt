@@ -1,5 +1,5 @@
 -- `clock::inner::shown_of_milli` meets its contract. Assumes nothing.
-use Prim.Native.Nat.{ℕ, _/_, _%_}
+use Prim.Native.Nat.{_/_, _%_}
 use mathlib.Core.Path.{_≡_, ap, _∙_}
 use borrow.Author.Needs.{needs}
 use lib.IntN.{natAbs}

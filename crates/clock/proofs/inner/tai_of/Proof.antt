@@ -1,25 +1,20 @@
 -- `clock::inner::tai_of` meets its contract. Assumes nothing.
-use mathlib.Core.Path.{refl}
-use mathlib.Core.List.{[], _∷_}
-use Rattle.whole.specs.Ranges.{fits, bounds, bound-back, ok-fits}
-use Rattle.whole.specs.Solver.{⇑, ring, value-of}
+use mir.Facts.{toZ-ofZ}
+use Rattle.whole.specs.Ranges.{fits, bounds, bound-back, read-back}
 use Rattle.clock.specs.Clock.{tai}
 use Rattle.clock.specs.theory.Sizes.{second-small}
 use Rattle.clock.proofs.inner.tai_of.Statement.{statement}
 use Rattle.clock.proofs.inner.tai_of.Tie as tie
 
-mul-result : tie.Need-mul-result
-mul-result c = let small = second-small (c .before .args .second) (c .before .pre) in fits (search bounds) tt
+mul-t3 : tie.Need-mul-t3
+mul-t3 c = let small = second-small (c .before .args .second) (c .before .pre) in fits (search bounds) tt
 
-sub-result : tie.Need-sub-result
-sub-result c = let small = second-small (c .before .args .second) (c .before .pre) in fits (search (bounds, bound-back (mul-result c))) tt
+sub-t4 : tie.Need-sub-t4
+sub-t4 c = let small = second-small (c .before .args .second) (c .before .pre) in fits (search (bounds, bound-back (mul-t3 c))) tt
 
 returns : tie.Need-returns
 unfolding tai
-returns c =
-    let ρ = c .before .args .second .0 ∷ [] in
-    let f = ok-fits (c .before .args .second .0) (c .struct-told .given .0 .1) in
-    ⇑ ρ (search (ring, value-of ρ (mul-result c), value-of ρ (sub-result c)) depth 12) refl
+returns c = rw (toZ-ofZ (sub-t4 c), toZ-ofZ (mul-t3 c), read-back (c .before .args .second .0) (c .struct-told .given .0 .1))
 
 pub tai-of-spec : {M : Type 1} → statement M
-tai-of-spec = tie.close (tie.spec mul-result sub-result returns)
+tai-of-spec = tie.close (tie.spec mul-t3 sub-t4 returns)

@@ -1,6 +1,6 @@
 -- `clock::inner::utc_day` meets its contract. Assumes nothing.
 use borrow.Author.Needs.{needs}
-use mir.Facts.{toZ-ofZ}
+use Rattle.whole.specs.Ranges.{read-back}
 use Rattle.clock.proofs.inner.utc_day.Statement.{statement}
 use Rattle.clock.proofs.inner.utc_day.Tie as tie
 
@@ -8,7 +8,9 @@ in-range-requires : tie.Need-in-range-requires
 in-range-requires c κs = search needs
 
 returns : tie.Need-returns
-returns c = rw (toZ-ofZ (c .before .fits .day)) at (c .in-range .ensures)
+returns c =
+    let told = c .before in
+    rw (read-back (told .before .args .day .0) (told .struct-told .given .0 .1)) at (c .in-range .ensures)
 
 pub utc-day-spec : {M : Type 1} → statement M
 utc-day-spec = tie.close (tie.spec in-range-requires returns)

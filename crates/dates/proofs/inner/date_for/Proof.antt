@@ -1,61 +1,60 @@
 -- `dates::inner::date_for` meets its contract. Assumes nothing.
+use mathlib.Core.Path.{_≡_, _∙_}
 use native.Mathlib.Omega.{arith}
-use Rattle.dates.specs.Calendar.{yearOf, dateFor}
-use Rattle.dates.proofs.Years.{year-found}
-use Rattle.dates.proofs.Days.{daysOver, day-within}
-use Rattle.dates.proofs.Sizes.{range-small, year-small, year-sum}
-use borrow.Author.Needs.{needs}
 use mir.Syntax.{w64}
-use mir.Val.{SFits}
-use mir.Facts.{toZ-ofZ}
+use mir.Val.{toZ, ofZ}
+use Rattle.whole.specs.Ranges.{read-back}
+use Rattle.dates.specs.Calendar.{newYear, yearOf, dateFor}
+use Rattle.dates.specs.theory.Years.{year-found}
+use Rattle.dates.specs.theory.Days.{daysOver, day-within}
+use Rattle.dates.specs.theory.Sizes.{range-small, year-small, year-sum}
 use Rattle.dates.proofs.inner.date_for.Statement.{statement}
 use Rattle.dates.proofs.inner.date_for.Tie as tie
 
+-- ---- what each call gives
+at-year : (c : tie.After-year-of) → toZ w64 (ofZ w64 (c .year-of .result)) ≡ yearOf (c .before .args .day .0)
+at-year c = read-back (c .year-of .result) (c .year-of .ok) ∙ c .year-of .ensures
+
+at-first : (c : tie.After-struct-told) → (let first = c .before in toZ w64 (ofZ w64 (first .new-year .result .0)) ≡ newYear (yearOf (first .before .before .args .day .0)))
+at-first c =
+    let first = c .before in
+    read-back (first .new-year .result .0) (c .struct-told .given .0 .1) ∙ (rw (at-year (first .before)) at (first .new-year .ensures))
+
+at-day : (c : tie.After-struct-told2) → (let start = c .before .before .before .before in toZ w64 (ofZ w64 (start .args .day .0)) ≡ start .args .day .0)
+at-day c =
+    let start = c .before .before .before .before in
+    read-back (start .args .day .0) (c .struct-told2 .given .0 .1)
+
+at-over : (c : tie.After-distance) → (let start = c .before .before .before .before .before in c .distance .result ≡ daysOver (start .args .day .0))
+unfolding daysOver
+at-over c = rw (at-day (c .before), at-first (c .before .before)) at (c .distance .ensures)
+
+-- ---- the needs
 year-of-requires : tie.Need-year-of-requires
-year-of-requires c κs = let f : SFits w64 (c .before .args .day .0) = search needs in rw (toZ-ofZ f) (range-small (c .before .args .day .0) (c .before .pre))
+year-of-requires c κs = range-small (c .args .day .0) (c .pre)
 
 new-year-requires : tie.Need-new-year-requires
 new-year-requires c κs =
-    let n = c .before .before .args .day .0 in
-    let f : SFits w64 n = search needs in
-    let g : SFits w64 (c .year-of .result) = search needs in
-    let e = rw (toZ-ofZ f) at (c .year-of .ensures) in
-    rw (toZ-ofZ g, e) (year-small n (range-small n (c .before .before .pre)))
+    let start = c .before in
+    rw (at-year c) (year-small (start .args .day .0) (range-small (start .args .day .0) (start .pre)))
 
 distance-requires : tie.Need-distance-requires
 unfolding daysOver
 distance-requires c κs =
-    let n = c .before .before .before .args .day .0 in
-    let f : SFits w64 n = search needs in
-    let g : SFits w64 (c .before .year-of .result) = search needs in
-    let h : SFits w64 (c .new-year .result) = search needs in
-    let e = rw (toZ-ofZ f) at (c .before .year-of .ensures) in
-    let e2 = rw (toZ-ofZ g, e) at (c .new-year .ensures) in
-    rw (toZ-ofZ f, toZ-ofZ h, e2) (year-found n .0, omega (arith, day-within n, year-sum (yearOf n)))
+    let n = c .before .before .before .before .args .day .0 in
+    rw (at-day c, at-first (c .before)) (year-found n .0, omega (arith, day-within n, year-sum (yearOf n)))
 
 date-in-year-requires : tie.Need-date-in-year-requires
-unfolding daysOver
 date-in-year-requires c κs =
-    let n = c .before .before .before .before .args .day .0 in
-    let f : SFits w64 n = search needs in
-    let g : SFits w64 (c .before .before .year-of .result) = search needs in
-    let h : SFits w64 (c .before .new-year .result) = search needs in
-    let e = rw (toZ-ofZ f) at (c .before .before .year-of .ensures) in
-    let e2 = rw (toZ-ofZ g, e) at (c .before .new-year .ensures) in
-    let e3 = rw (toZ-ofZ f, toZ-ofZ h, e2) at (c .distance .ensures) in
-    rw (toZ-ofZ g, e, e3) (day-within n)
+    let year = c .before .before .before .before in
+    rw (at-over c, at-year year) (day-within (year .before .args .day .0))
 
 returns : tie.Need-returns
-unfolding dateFor
+unfolding dateFor daysOver
 returns c =
-    let n = c .before .before .before .before .before .args .day .0 in
-    let f : SFits w64 n = search needs in
-    let g : SFits w64 (c .before .before .before .year-of .result) = search needs in
-    let h : SFits w64 (c .before .before .new-year .result) = search needs in
-    let e = rw (toZ-ofZ f) at (c .before .before .before .year-of .ensures) in
-    let e2 = rw (toZ-ofZ g, e) at (c .before .before .new-year .ensures) in
-    let e3 = rw (toZ-ofZ f, toZ-ofZ h, e2) at (c .before .distance .ensures) in
-    rw (toZ-ofZ g, e, e3) at (c .date-in-year .ensures)
+    let over = c .before in
+    let year = over .before .before .before .before in
+    rw (at-over over, at-year year) at (c .date-in-year .ensures)
 
 pub date-for-spec : {M : Type 1} → statement M
 date-for-spec =

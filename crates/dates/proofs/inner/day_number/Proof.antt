@@ -1,109 +1,59 @@
 -- `dates::inner::day_number` meets its contract. Assumes nothing.
-use Rattle.whole.specs.Ranges.{Within, fits, bounds}
-use Rattle.whole.specs.Floor.{bound-floor}
-use Rattle.dates.specs.Calendar.{leapYearsTo, newYear, numberOf}
-use Rattle.dates.proofs.Days.{valid-says}
-use Rattle.dates.proofs.Sizes.{before-small, day-small}
-use mathlib.Core.Path.{_∙_}
+use mathlib.Core.Path.{_≡_, _∙_}
 use borrow.Author.Needs.{needs}
+use lib.IntN.{pos}
 use mir.Syntax.{w64}
-use mir.Val.{SFits}
-use mir.Facts.{toZ-ofZ}
+use mir.Val.{toZ, ofZ}
+use Rattle.whole.specs.Ranges.{read-back}
+use Rattle.dates.specs.Calendar.{newYear, daysBefore, numberOf}
+use Rattle.dates.specs.theory.Days.{Valid, valid-says}
+use Rattle.dates.specs.theory.Sizes.{before-small, day-small, new-year-small}
 use Rattle.dates.proofs.inner.day_number.Statement.{statement}
 use Rattle.dates.proofs.inner.day_number.Tie as tie
 
-days-before-requires : tie.Need-days-before-requires
-days-before-requires c κs =
-    let date = c .before .before .before .args .date in
-    let m : SFits w64 (date .month) = search needs in
-    let v = valid-says (date .year) (date .month) (date .day) (c .before .before .before .pre .0) in
-    rw (toZ-ofZ m) (v .month-from, v .month-to)
+known : (c : tie.Start) → Valid (c .args .date .year) (c .args .date .month) (c .args .date .day)
+known c = valid-says (c .args .date .year) (c .args .date .month) (c .args .date .day) (c .pre .0)
 
+-- ---- what each call gives
+at-first : (c : tie.After-new-year) → c .new-year .result .0 ≡ newYear (c .before .before .args .date .year)
+at-first c =
+    let told = c .before in
+    rw (read-back (told .before .args .date .year) (told .struct-told .given .0 .1)) at (c .new-year .ensures)
+
+at-before : (c : tie.After-days-before) → (let date = c .before .before .before .before .before .args .date in toZ w64 (ofZ w64 (c .days-before .result)) ≡ pos (daysBefore (date .year) (date .month)))
+at-before c =
+    let told = c .before .before .before .before in
+    let date = told .before .args .date in
+    read-back (c .days-before .result) (c .days-before .ok)
+    ∙ (rw (read-back (date .year) (told .struct-told .given .0 .1), read-back (date .month) (told .struct-told .given .1 .0 .1)) at (c .days-before .ensures))
+
+-- ---- the needs
 new-year-requires : tie.Need-new-year-requires
 new-year-requires c κs = search needs
 
-add-requires : tie.Need-add-requires
-unfolding newYear leapYearsTo
-add-requires c κs =
-    let date = c .before .before .before .before .before .args .date in
-    let y : SFits w64 (date .year) = search needs in
-    let m : SFits w64 (date .month) = search needs in
-    let d : SFits w64 (date .day) = search needs in
-    let v = valid-says (date .year) (date .month) (date .day) (c .before .before .before .before .before .pre .0) in
-    let small = day-small (date .year) (date .month) (date .day) v in
-    let small-year = c .before .before .before .before .before .pre .1 in
-    let g : SFits w64 (c .new-year .result) = search needs in
-    let h : SFits w64 (c .before .days-before .result) = search needs in
-    let e = rw (toZ-ofZ y) at (c .new-year .ensures) in
-    let e2 = rw (toZ-ofZ y, toZ-ofZ m) at (c .before .days-before .ensures) in
-    let small-before : Within 400 (c .before .days-before .result) = rw e2 (before-small (date .year) (date .month)) in
-    rw (toZ-ofZ g, toZ-ofZ h, e) (fits (search (bounds, bound-floor) depth 12) tt)
+days-before-requires : tie.Need-days-before-requires
+days-before-requires c κs =
+    let told = c .before .before .before in
+    let v = known (told .before) in
+    rw (read-back (told .before .args .date .month) (told .struct-told .given .1 .0 .1)) (v .month-from, v .month-to)
 
-add-requires-2 : tie.Need-add-requires-2
-unfolding newYear leapYearsTo
-add-requires-2 c κs =
-    let date = c .before .before .before .before .before .before .args .date in
-    let y : SFits w64 (date .year) = search needs in
-    let m : SFits w64 (date .month) = search needs in
-    let d : SFits w64 (date .day) = search needs in
-    let v = valid-says (date .year) (date .month) (date .day) (c .before .before .before .before .before .before .pre .0) in
-    let small = day-small (date .year) (date .month) (date .day) v in
-    let small-year = c .before .before .before .before .before .before .pre .1 in
-    let g : SFits w64 (c .before .new-year .result) = search needs in
-    let h : SFits w64 (c .before .before .days-before .result) = search needs in
-    let e = rw (toZ-ofZ y) at (c .before .new-year .ensures) in
-    let e2 = rw (toZ-ofZ y, toZ-ofZ m) at (c .before .before .days-before .ensures) in
-    let small-before : Within 400 (c .before .before .days-before .result) = rw e2 (before-small (date .year) (date .month)) in
-    let i : SFits w64 (c .add .result) = search needs in
-    let e3 = rw (toZ-ofZ g, toZ-ofZ h, e) at (c .add .ensures) in
-    rw (toZ-ofZ i, toZ-ofZ d, e3) (fits (search (bounds, bound-floor) depth 12) tt)
-
-subtract-requires : tie.Need-subtract-requires
-unfolding newYear leapYearsTo
-subtract-requires c κs =
-    let date = c .before .before .before .before .before .before .before .args .date in
-    let y : SFits w64 (date .year) = search needs in
-    let m : SFits w64 (date .month) = search needs in
-    let d : SFits w64 (date .day) = search needs in
-    let v = valid-says (date .year) (date .month) (date .day) (c .before .before .before .before .before .before .before .pre .0) in
-    let small = day-small (date .year) (date .month) (date .day) v in
-    let small-year = c .before .before .before .before .before .before .before .pre .1 in
-    let g : SFits w64 (c .before .before .new-year .result) = search needs in
-    let h : SFits w64 (c .before .before .before .days-before .result) = search needs in
-    let e = rw (toZ-ofZ y) at (c .before .before .new-year .ensures) in
-    let e2 = rw (toZ-ofZ y, toZ-ofZ m) at (c .before .before .before .days-before .ensures) in
-    let small-before : Within 400 (c .before .before .before .days-before .result) = rw e2 (before-small (date .year) (date .month)) in
-    let i : SFits w64 (c .before .add .result) = search needs in
-    let e3 = rw (toZ-ofZ g, toZ-ofZ h, e) at (c .before .add .ensures) in
-    let j : SFits w64 (c .add2 .result) = search needs in
-    let e4 = rw (toZ-ofZ i, toZ-ofZ d, e3) at (c .add2 .ensures) in
-    rw (toZ-ofZ j, e4) (fits (search (bounds, bound-floor) depth 14) tt)
+day-after-requires : tie.Need-day-after-requires
+day-after-requires c κs =
+    let before = c .before in
+    let first = before .before .before .before in
+    let told = first .before in
+    let date = told .before .args .date in
+    rw (at-first first, at-before before, read-back (date .day) (told .struct-told .given .1 .1 .0 .1))
+    (new-year-small (date .year) (told .before .pre .1), (before-small (date .year) (date .month), day-small (date .year) (date .month) (date .day) (known (told .before))))
 
 returns : tie.Need-returns
 unfolding numberOf
 returns c =
-    let date = c .before .before .before .before .before .before .before .before .args .date in
-    let y : SFits w64 (date .year) = search needs in
-    let m : SFits w64 (date .month) = search needs in
-    let d : SFits w64 (date .day) = search needs in
-    let g : SFits w64 (c .before .before .before .new-year .result) = search needs in
-    let h : SFits w64 (c .before .before .before .before .days-before .result) = search needs in
-    let e = rw (toZ-ofZ y) at (c .before .before .before .new-year .ensures) in
-    let e2 = rw (toZ-ofZ y, toZ-ofZ m) at (c .before .before .before .before .days-before .ensures) in
-    let i : SFits w64 (c .before .before .add .result) = search needs in
-    let e3 = rw (toZ-ofZ g, toZ-ofZ h, e, e2) at (c .before .before .add .ensures) in
-    let j : SFits w64 (c .before .add2 .result) = search needs in
-    let e4 = rw (toZ-ofZ i, toZ-ofZ d, e3) at (c .before .add2 .ensures) in
-    let k : SFits w64 (c .subtract .result) = search needs in
-    toZ-ofZ k ∙ (rw (toZ-ofZ j, e4) at (c .subtract .ensures))
+    let before = c .before .before in
+    let first = before .before .before .before in
+    let told = first .before in
+    rw (at-first first, at-before before, read-back (told .before .args .date .day) (told .struct-told .given .1 .1 .0 .1)) at (c .day-after .ensures)
 
 pub day-number-spec : {M : Type 1} → statement M
 day-number-spec =
-    tie.close
-    (tie.spec
-    days-before-requires
-    new-year-requires
-    add-requires
-    add-requires-2
-    subtract-requires
-    returns)
+    tie.close (tie.spec new-year-requires days-before-requires day-after-requires returns)

@@ -5,13 +5,13 @@ use native.Mathlib.Omega.{arith}
 use native.Mathlib.Numerals.{add-one}
 use borrow.Author.Needs.{needs}
 use lib.ListN.{take}
-use Rattle.dates.specs.Calendar.{sum}
-use Rattle.dates.proofs.Months.{take-next, take-below}
+use Rattle.dates.specs.Calendar.{total}
+use Rattle.dates.specs.theory.Months.{take-next, take-below}
 use Rattle.dates.proofs.inner.days_of.Statement.{statement}
 use Rattle.dates.proofs.inner.days_of.Tie as tie
 
 abbrev Inv-loop : tie.InvT-loop
-Inv-loop lengths months days₀ i₀ days i = (i ≤ months) × (days ≡ sum (take i lengths))
+Inv-loop lengths months days₀ i₀ days i = (i ≤ months) × (days ≡ total (take i lengths))
 
 abbrev μ-loop : tie.MeasureT-loop
 μ-loop lengths months days₀ i₀ days i = months - i
@@ -27,8 +27,9 @@ shared-slice-read-days c = search needs
 
 add-days : tie.Need-add-days Inv-loop μ-loop
 add-days c =
-    let ls = c .before .before .before .args .lengths .now in
-    let i = c .before .before .loop .i in
+    let loop = c .before .before in
+    let ls = loop .before .args .lengths .now in
+    let i = loop .loop .i in
     record { fits = omega (arith, take-next ls i (omega arith), take-below ls (suc i)) }
 
 add-i : tie.Need-add-i Inv-loop μ-loop
@@ -39,16 +40,17 @@ loop-less c = search needs
 
 loop-again : tie.Need-loop-again Inv-loop μ-loop
 loop-again c =
-    let ls = c .before .before .before .args .lengths .now in
-    let i = c .before .before .loop .i in
-    let e : sum (take (i + 1) ls) ≡ sum (take (suc i) ls) = ap (λ (k : ℕ). sum (take k ls)) (add-one i) in
+    let loop = c .before .before in
+    let ls = loop .before .args .lengths .now in
+    let i = loop .loop .i in
+    let e : total (take (i + 1) ls) ≡ total (take (suc i) ls) = ap (λ (k : ℕ). total (take k ls)) (add-one i) in
     (omega arith, omega (arith, take-next ls i (omega arith)))
 
 returns : tie.Need-returns Inv-loop μ-loop
 returns c =
-    let ls = c .before .before .args .lengths .now in
-    let e : c .before .loop .i ≡ c .before .before .args .months = omega arith in
-    c .before .loop .inv .1 ∙ ap (λ (k : ℕ). sum (take k ls)) e
+    let loop = c .before in
+    let e : loop .loop .i ≡ loop .before .args .months = omega arith in
+    loop .loop .inv .1 ∙ ap (λ (k : ℕ). total (take k (loop .before .args .lengths .now))) e
 
 pub days-of-spec : {M : Type 1} → statement M
 days-of-spec =

@@ -1,70 +1,51 @@
 -- `dates::inner::leap_year` meets its contract. Assumes nothing.
+use mathlib.Core.Path.{_≡_, sym, _∙_}
 use borrow.Author.Needs.{needs}
-use mir.Syntax.{w64}
-use mir.Val.{SFits}
+use borrow.Author.Tests.{not-true, not-false}
 use mir.Facts.{toZ-ofZ}
-use Rattle.dates.proofs.Tests.{no-multiple, multiple, not-fourth, not-century, not-fourth-century, fourth-century}
+use Rattle.dates.specs.Calendar.{divides, leapYear}
 use Rattle.dates.proofs.inner.leap_year.Statement.{statement}
 use Rattle.dates.proofs.inner.leap_year.Tie as tie
 
-floor-mod-requires : tie.Need-floor-mod-requires
-floor-mod-requires c κs = search needs
+-- ---- what each call gives
+at-4 : (c : tie.After-divides) → divides 4 (c .before .args .y) ≡ c .divides .result
+at-4 c = sym (rw (toZ-ofZ (c .before .fits .y)) at (c .divides .ensures))
+
+at-100 : (c : tie.After-divides2) → (let start = c .before .before .before in divides 100 (start .args .y) ≡ c .divides2 .result)
+at-100 c =
+    let start = c .before .before .before in
+    sym (rw (toZ-ofZ (start .fits .y)) at (c .divides2 .ensures))
+
+-- ---- the needs
+divides-requires : tie.Need-divides-requires
+divides-requires c κs = search needs
 
 returns : tie.Need-returns
-returns c =
-    let y = c .before .before .args .y in
-    let f : SFits w64 y = search needs in
-    let g : SFits w64 (c .before .floor-mod .result) = search needs in
-    not-fourth y (no-multiple y (c .before .floor-mod .result) 4 (rw (toZ-ofZ f) at (c .before .floor-mod .ensures)) (rw (toZ-ofZ g) at (c .if1 .taken)))
+unfolding leapYear
+returns c = rw (at-4 (c .before) ∙ not-true (c .before .divides .result) (c .if1 .taken))
 
-floor-mod-requires-2 : tie.Need-floor-mod-requires-2
-floor-mod-requires-2 c κs = search needs
+divides-requires-2 : tie.Need-divides-requires-2
+divides-requires-2 c κs = search needs
 
 returns-2 : tie.Need-returns-2
+unfolding leapYear
 returns-2 c =
-    let y = c .before .before .before .before .args .y in
-    let f : SFits w64 y = search needs in
-    let g4 : SFits w64 (c .before .before .before .floor-mod .result) = search needs in
-    let g100 : SFits w64 (c .before .floor-mod2 .result) = search needs in
-    not-century y
-    (multiple y (c .before .before .before .floor-mod .result) 4 (rw (toZ-ofZ f) at (c .before .before .before .floor-mod .ensures)) (rw (toZ-ofZ g4) at (c .before .before .if1 .left)))
-    (no-multiple y (c .before .floor-mod2 .result) 100 (rw (toZ-ofZ f) at (c .before .floor-mod2 .ensures)) (rw (toZ-ofZ g100) at (c .if2 .taken)))
+    let century = c .before in
+    let fourth = century .before .before in
+    rw (at-4 fourth ∙ not-false (fourth .divides .result) (century .before .if1 .left), at-100 century ∙ not-true (century .divides2 .result) (c .if2 .taken))
 
-floor-mod-requires-3 : tie.Need-floor-mod-requires-3
-floor-mod-requires-3 c κs = search needs
+divides-requires-3 : tie.Need-divides-requires-3
+divides-requires-3 c κs = search needs
 
 returns-3 : tie.Need-returns-3
+unfolding leapYear
 returns-3 c =
-    let y = c .before .before .before .before .before .before .args .y in
-    let f : SFits w64 y = search needs in
-    let g4 : SFits w64 (c .before .before .before .before .before .floor-mod .result) = search needs in
-    let g100 : SFits w64 (c .before .before .before .floor-mod2 .result) = search needs in
-    let g400 : SFits w64 (c .before .floor-mod3 .result) = search needs in
-    not-fourth-century y
-    (multiple y (c .before .before .before .before .before .floor-mod .result) 4 (rw (toZ-ofZ f) at (c .before .before .before .before .before .floor-mod .ensures)) (rw (toZ-ofZ g4) at (c .before .before .before .before .if1 .left)))
-    (multiple y (c .before .before .before .floor-mod2 .result) 100 (rw (toZ-ofZ f) at (c .before .before .before .floor-mod2 .ensures)) (rw (toZ-ofZ g100) at (c .before .before .if2 .left)))
-    (no-multiple y (c .before .floor-mod3 .result) 400 (rw (toZ-ofZ f) at (c .before .floor-mod3 .ensures)) (rw (toZ-ofZ g400) at (c .if3 .taken)))
-
-returns-4 : tie.Need-returns-4
-returns-4 c =
-    let y = c .before .before .before .before .before .before .args .y in
-    let f : SFits w64 y = search needs in
-    let g4 : SFits w64 (c .before .before .before .before .before .floor-mod .result) = search needs in
-    let g100 : SFits w64 (c .before .before .before .floor-mod2 .result) = search needs in
-    let g400 : SFits w64 (c .before .floor-mod3 .result) = search needs in
-    fourth-century y
-    (multiple y (c .before .before .before .before .before .floor-mod .result) 4 (rw (toZ-ofZ f) at (c .before .before .before .before .before .floor-mod .ensures)) (rw (toZ-ofZ g4) at (c .before .before .before .before .if1 .left)))
-    (multiple y (c .before .before .before .floor-mod2 .result) 100 (rw (toZ-ofZ f) at (c .before .before .before .floor-mod2 .ensures)) (rw (toZ-ofZ g100) at (c .before .before .if2 .left)))
-    (multiple y (c .before .floor-mod3 .result) 400 (rw (toZ-ofZ f) at (c .before .floor-mod3 .ensures)) (rw (toZ-ofZ g400) at (c .if3 .left)))
+    let century = c .before .before in
+    let fourth = century .before .before in
+    rw (at-4 fourth ∙ not-false (fourth .divides .result) (century .before .if1 .left), at-100 century ∙ not-false (century .divides2 .result) (c .before .if2 .left))
+    (rw (toZ-ofZ (fourth .before .fits .y)) at (c .divides3 .ensures))
 
 pub leap-year-spec : {M : Type 1} → statement M
 leap-year-spec =
     tie.close
-    (tie.spec
-    floor-mod-requires
-    returns
-    floor-mod-requires-2
-    returns-2
-    floor-mod-requires-3
-    returns-3
-    returns-4)
+    (tie.spec divides-requires returns divides-requires-2 returns-2 divides-requires-3 returns-3)

@@ -1,60 +1,50 @@
 -- `dates::inner::leap_years_to` meets its contract. Assumes nothing.
-use mathlib.Core.Path.{_∙_}
+use mathlib.Core.Path.{_≡_, _∙_}
 use borrow.Author.Needs.{needs}
 use mir.Syntax.{w64}
-use mir.Val.{SFits}
+use mir.Val.{toZ, ofZ}
 use mir.Facts.{toZ-ofZ}
-use Rattle.whole.specs.Ranges.{fits, bounds}
-use Rattle.whole.specs.Floor.{bound-floor}
+use Rattle.whole.specs.Ranges.{fits, bounds, read-back}
+use Rattle.whole.specs.Floor.{floorDiv, bound-floor}
 use Rattle.dates.specs.Calendar.{leapYearsTo}
 use Rattle.dates.proofs.inner.leap_years_to.Statement.{statement}
 use Rattle.dates.proofs.inner.leap_years_to.Tie as tie
 
+-- ---- what each call gives
+at-4 : (c : tie.After-floor-div) → toZ w64 (ofZ w64 (c .floor-div .result)) ≡ floorDiv (c .before .args .y) 4
+at-4 c = read-back (c .floor-div .result) (c .floor-div .ok) ∙ (rw (toZ-ofZ (c .before .fits .y)) at (c .floor-div .ensures))
+
+at-100 : (c : tie.After-floor-div2) → toZ w64 (ofZ w64 (c .floor-div2 .result)) ≡ floorDiv (c .before .before .args .y) 100
+at-100 c = read-back (c .floor-div2 .result) (c .floor-div2 .ok) ∙ (rw (toZ-ofZ (c .before .before .fits .y)) at (c .floor-div2 .ensures))
+
+at-400 : (c : tie.After-floor-div3) → (let start = c .before .before .before in toZ w64 (ofZ w64 (c .floor-div3 .result)) ≡ floorDiv (start .args .y) 400)
+at-400 c =
+    let start = c .before .before .before in
+    read-back (c .floor-div3 .result) (c .floor-div3 .ok) ∙ (rw (toZ-ofZ (start .fits .y)) at (c .floor-div3 .ensures))
+
+-- ---- the needs
 floor-div-requires : tie.Need-floor-div-requires
 floor-div-requires c κs = search needs
 
 floor-div-requires-2 : tie.Need-floor-div-requires-2
 floor-div-requires-2 c κs = search needs
 
-subtract-requires : tie.Need-subtract-requires
-subtract-requires c κs =
-    let f : SFits w64 (c .before .before .args .y) = search needs in
-    let g4 : SFits w64 (c .before .floor-div .result) = search needs in
-    let g100 : SFits w64 (c .floor-div2 .result) = search needs in
-    let e4 = rw (toZ-ofZ f) at (c .before .floor-div .ensures) in
-    let e100 = rw (toZ-ofZ f) at (c .floor-div2 .ensures) in
-    rw (toZ-ofZ g4, toZ-ofZ g100, e4, e100) (fits (search (bounds, bound-floor) depth 9) tt)
+sub-result : tie.Need-sub-result
+sub-result c = rw (at-4 (c .before), at-100 c) (fits (search (bounds, bound-floor) depth 9) tt)
 
 floor-div-requires-3 : tie.Need-floor-div-requires-3
 floor-div-requires-3 c κs = search needs
 
-add-requires : tie.Need-add-requires
-add-requires c κs =
-    let f : SFits w64 (c .before .before .before .before .args .y) = search needs in
-    let g4 : SFits w64 (c .before .before .before .floor-div .result) = search needs in
-    let g100 : SFits w64 (c .before .before .floor-div2 .result) = search needs in
-    let g400 : SFits w64 (c .floor-div3 .result) = search needs in
-    let d : SFits w64 (c .before .subtract .result) = search needs in
-    let e4 = rw (toZ-ofZ f) at (c .before .before .before .floor-div .ensures) in
-    let e100 = rw (toZ-ofZ f) at (c .before .before .floor-div2 .ensures) in
-    let e400 = rw (toZ-ofZ f) at (c .floor-div3 .ensures) in
-    let e = rw (toZ-ofZ g4, toZ-ofZ g100, e4, e100) at (c .before .subtract .ensures) in
-    rw (toZ-ofZ d, toZ-ofZ g400, e, e400) (fits (search (bounds, bound-floor) depth 9) tt)
+add-result : tie.Need-add-result
+add-result c =
+    let century = c .before in
+    rw (toZ-ofZ (sub-result century), at-4 (century .before), at-100 century, at-400 c) (fits (search (bounds, bound-floor) depth 9) tt)
 
 returns : tie.Need-returns
 unfolding leapYearsTo
 returns c =
-    let f : SFits w64 (c .before .before .before .before .before .args .y) = search needs in
-    let g4 : SFits w64 (c .before .before .before .before .floor-div .result) = search needs in
-    let g100 : SFits w64 (c .before .before .before .floor-div2 .result) = search needs in
-    let g400 : SFits w64 (c .before .floor-div3 .result) = search needs in
-    let d : SFits w64 (c .before .before .subtract .result) = search needs in
-    let s : SFits w64 (c .add .result) = search needs in
-    let e4 = rw (toZ-ofZ f) at (c .before .before .before .before .floor-div .ensures) in
-    let e100 = rw (toZ-ofZ f) at (c .before .before .before .floor-div2 .ensures) in
-    let e400 = rw (toZ-ofZ f) at (c .before .floor-div3 .ensures) in
-    let e = rw (toZ-ofZ g4, toZ-ofZ g100, e4, e100) at (c .before .before .subtract .ensures) in
-    toZ-ofZ s ∙ (rw (toZ-ofZ d, toZ-ofZ g400, e, e400) at (c .add .ensures))
+    let century = c .before in
+    rw (toZ-ofZ (add-result c), toZ-ofZ (sub-result century), at-4 (century .before), at-100 century, at-400 c)
 
 pub leap-years-to-spec : {M : Type 1} → statement M
 leap-years-to-spec =
@@ -62,7 +52,7 @@ leap-years-to-spec =
     (tie.spec
     floor-div-requires
     floor-div-requires-2
-    subtract-requires
+    sub-result
     floor-div-requires-3
-    add-requires
+    add-result
     returns)

@@ -7,7 +7,7 @@ use native.Mathlib.Numerals.{add-one}
 use borrow.Author.Needs.{needs}
 use lib.ListN.{length, getD, drop}
 use Rattle.dates.specs.Calendar.{monthsOver}
-use Rattle.dates.proofs.Months.{over-stops, over-goes-on, over-ends}
+use Rattle.dates.specs.theory.Months.{over-stops, over-goes-on, over-ends}
 use Rattle.dates.proofs.inner.months_over.Statement.{statement}
 use Rattle.dates.proofs.inner.months_over.Tie as tie
 
@@ -28,9 +28,8 @@ shared-slice-read-month c = search needs
 
 returns : tie.Need-returns Inv-loop μ-loop
 returns c =
-    let ls = c .before .before .before .before .args .lengths .now in
-    let over = c .before .before .before .loop .over in
-    omega (arith, over-stops ls over (c .before .before .before .loop .left) (omega arith) (omega arith))
+    let loop = c .before .before .before in
+    omega (arith, over-stops (loop .before .args .lengths .now) (loop .loop .over) (loop .loop .left) (omega arith) (omega arith))
 
 add-over : tie.Need-add-over Inv-loop μ-loop
 add-over c = search needs
@@ -40,16 +39,17 @@ loop-less c = search needs
 
 loop-again : tie.Need-loop-again Inv-loop μ-loop
 loop-again c =
-    let ls = c .before .before .before .before .args .lengths .now in
-    let over = c .before .before .before .loop .over in
-    let left = c .before .before .before .loop .left in
+    let loop = c .before .before .before in
+    let ls = loop .before .args .lengths .now in
+    let over = loop .loop .over in
+    let left = loop .loop .left in
     let e : monthsOver (drop (over + 1) ls) (left - getD ls over 0) ≡ monthsOver (drop (suc over) ls) (left - getD ls over 0) = ap (λ (k : ℕ). monthsOver (drop k ls) (left - getD ls over 0)) (add-one over) in
     (omega arith, omega (arith, over-goes-on ls over left (omega arith) (omega arith)))
 
 returns-2 : tie.Need-returns-2 Inv-loop μ-loop
 returns-2 c =
-    let ls = c .before .before .args .lengths .now in
-    omega (arith, over-ends ls (c .before .loop .over) (c .before .loop .left) (omega arith))
+    let loop = c .before in
+    omega (arith, over-ends (loop .before .args .lengths .now) (loop .loop .over) (loop .loop .left) (omega arith))
 
 pub months-over-spec : {M : Type 1} → statement M
 months-over-spec =

@@ -1,90 +1,50 @@
 -- `dates::inner::new_year` meets its contract. Assumes nothing.
-use mathlib.Core.Path.{_∙_}
-use borrow.Author.Needs.{needs}
+use mathlib.Core.Path.{_≡_, _∙_}
+use lib.IntN.{pos, _-ℤ_}
 use mir.Syntax.{w64}
-use mir.Val.{SFits}
+use mir.Val.{toZ, ofZ}
 use mir.Facts.{toZ-ofZ}
-use Rattle.whole.specs.Ranges.{fits, within, bounds}
-use Rattle.whole.specs.Floor.{bound-floor}
+use Rattle.whole.specs.Ranges.{Within, fits, within, bounds, bound-back, read-back}
 use Rattle.dates.specs.Calendar.{leapYearsTo, newYear}
+use Rattle.dates.specs.theory.Sizes.{leap-years-small}
 use Rattle.dates.proofs.inner.new_year.Statement.{statement}
 use Rattle.dates.proofs.inner.new_year.Tie as tie
 
-subtract-requires : tie.Need-subtract-requires
-subtract-requires c κs = fits (search bounds) tt
+sub-t2 : tie.Need-sub-t2
+sub-t2 c = fits (search bounds) tt
 
-multiply-requires : tie.Need-multiply-requires
-multiply-requires c κs =
-    let f : SFits w64 (c .before .args .y) = search needs in
-    let g : SFits w64 (c .subtract .result) = search needs in
-    let e = rw (toZ-ofZ f) at (c .subtract .ensures) in
-    rw (toZ-ofZ g, e) (fits (search bounds) tt)
+mul-t3 : tie.Need-mul-t3
+mul-t3 c = fits (search (bounds, bound-back (sub-t2 c))) tt
 
-subtract-requires-2 : tie.Need-subtract-requires-2
-subtract-requires-2 c κs = let f : SFits w64 (c .before .before .args .y) = search needs in rw (toZ-ofZ f) (fits (search bounds) tt)
+sub-leap-years-to : tie.Need-sub-leap-years-to
+sub-leap-years-to c = fits (search bounds) tt
 
 leap-years-to-requires : tie.Need-leap-years-to-requires
-leap-years-to-requires c κs =
-    let f : SFits w64 (c .before .before .before .args .y) = search needs in
-    let g : SFits w64 (c .subtract2 .result) = search needs in
-    let e = rw (toZ-ofZ f) at (c .subtract2 .ensures) in
-    rw (toZ-ofZ g, e) (within (search bounds) tt)
+leap-years-to-requires c κs = within (search (bounds, bound-back (sub-leap-years-to c))) tt
 
-add-requires : tie.Need-add-requires
-unfolding leapYearsTo
-add-requires c κs =
-    let f : SFits w64 (c .before .before .before .before .args .y) = search needs in
-    let g : SFits w64 (c .before .before .before .subtract .result) = search needs in
-    let h : SFits w64 (c .before .subtract2 .result) = search needs in
-    let i : SFits w64 (c .before .before .multiply .result) = search needs in
-    let j : SFits w64 (c .leap-years-to .result) = search needs in
-    let e = rw (toZ-ofZ f) at (c .before .before .before .subtract .ensures) in
-    let e2 = rw (toZ-ofZ f) at (c .before .subtract2 .ensures) in
-    let e3 = rw (toZ-ofZ g, e) at (c .before .before .multiply .ensures) in
-    let e4 = rw (toZ-ofZ h, e2) at (c .leap-years-to .ensures) in
-    rw (toZ-ofZ i, toZ-ofZ j, e3, e4) (fits (search (bounds, bound-floor) depth 9) tt)
+at-leap : (c : tie.After-leap-years-to) → toZ w64 (ofZ w64 (c .leap-years-to .result)) ≡ leapYearsTo (c .before .args .y -ℤ pos 1)
+at-leap c = read-back (c .leap-years-to .result) (c .leap-years-to .ok) ∙ (rw (toZ-ofZ (sub-leap-years-to (c .before)), toZ-ofZ (c .before .fits .y)) at (c .leap-years-to .ensures))
 
-subtract-requires-3 : tie.Need-subtract-requires-3
-unfolding leapYearsTo
-subtract-requires-3 c κs =
-    let f : SFits w64 (c .before .before .before .before .before .args .y) = search needs in
-    let g : SFits w64 (c .before .before .before .before .subtract .result) = search needs in
-    let h : SFits w64 (c .before .before .subtract2 .result) = search needs in
-    let i : SFits w64 (c .before .before .before .multiply .result) = search needs in
-    let j : SFits w64 (c .before .leap-years-to .result) = search needs in
-    let k : SFits w64 (c .add .result) = search needs in
-    let e = rw (toZ-ofZ f) at (c .before .before .before .before .subtract .ensures) in
-    let e2 = rw (toZ-ofZ f) at (c .before .before .subtract2 .ensures) in
-    let e3 = rw (toZ-ofZ g, e) at (c .before .before .before .multiply .ensures) in
-    let e4 = rw (toZ-ofZ h, e2) at (c .before .leap-years-to .ensures) in
-    let e5 = rw (toZ-ofZ i, toZ-ofZ j, e3, e4) at (c .add .ensures) in
-    rw (toZ-ofZ k, e5) (fits (search (bounds, bound-floor) depth 12) tt)
+small : (c : tie.After-leap-years-to) → Within 6000000000 (leapYearsTo (c .before .args .y -ℤ pos 1))
+small c = leap-years-small (c .before .args .y -ℤ pos 1) (within (search bounds) tt)
+
+add-t6 : tie.Need-add-t6
+add-t6 c =
+    let few = small c in
+    rw (at-leap c) (fits (search (bounds, bound-back (sub-t2 (c .before)), bound-back (mul-t3 (c .before))) depth 9) tt)
+
+sub-t7 : tie.Need-sub-t7
+sub-t7 c =
+    let few = small c in
+    rw (toZ-ofZ (add-t6 c), at-leap c) (fits (search (bounds, bound-back (sub-t2 (c .before)), bound-back (mul-t3 (c .before))) depth 9) tt)
 
 returns : tie.Need-returns
 unfolding newYear
 returns c =
-    let f : SFits w64 (c .before .before .before .before .before .before .args .y) = search needs in
-    let g : SFits w64 (c .before .before .before .before .before .subtract .result) = search needs in
-    let h : SFits w64 (c .before .before .before .subtract2 .result) = search needs in
-    let i : SFits w64 (c .before .before .before .before .multiply .result) = search needs in
-    let j : SFits w64 (c .before .before .leap-years-to .result) = search needs in
-    let k : SFits w64 (c .before .add .result) = search needs in
-    let l : SFits w64 (c .subtract3 .result) = search needs in
-    let e = rw (toZ-ofZ f) at (c .before .before .before .before .before .subtract .ensures) in
-    let e2 = rw (toZ-ofZ f) at (c .before .before .before .subtract2 .ensures) in
-    let e3 = rw (toZ-ofZ g, e) at (c .before .before .before .before .multiply .ensures) in
-    let e4 = rw (toZ-ofZ h, e2) at (c .before .before .leap-years-to .ensures) in
-    let e5 = rw (toZ-ofZ i, toZ-ofZ j, e3, e4) at (c .before .add .ensures) in
-    toZ-ofZ l ∙ (rw (toZ-ofZ k, e5) at (c .subtract3 .ensures))
+    let start = c .before in
+    rw (toZ-ofZ (sub-t7 c), toZ-ofZ (add-t6 c), toZ-ofZ (mul-t3 start), toZ-ofZ (sub-t2 start), toZ-ofZ (start .fits .y), at-leap c)
 
 pub new-year-spec : {M : Type 1} → statement M
 new-year-spec =
     tie.close
-    (tie.spec
-    subtract-requires
-    multiply-requires
-    subtract-requires-2
-    leap-years-to-requires
-    add-requires
-    subtract-requires-3
-    returns)
+    (tie.spec sub-t2 mul-t3 sub-leap-years-to leap-years-to-requires add-t6 sub-t7 returns)

@@ -1,63 +1,61 @@
 -- `dates::inner::valid` meets its contract. Assumes nothing.
-use Rattle.dates.proofs.Tests.{no-month-below, no-month-above, no-day-below, no-day-above, is-date}
-use Rattle.whole.specs.Solver.{lt-no}
-use mathlib.Core.Path.{_≡_}
-use mathlib.Core.Bool.{false}
-use lib.IntN.{pos}
-use lib.Signed.{ltZ}
+use mathlib.Core.Path.{_≡_, sym, _∙_}
+use mathlib.Core.Bool.{true}
 use borrow.Author.Needs.{needs}
+use borrow.Author.Tests.{not-true, not-false}
+use lib.IntN.{pos}
 use mir.Syntax.{w64}
-use mir.Val.{SFits}
-use mir.Facts.{toZ-ofZ}
+use mir.Val.{toZ, ofZ}
+use Rattle.whole.specs.Ranges.{read-back}
+use Rattle.whole.specs.Tests.{inRange, in-range-says}
+use Rattle.dates.specs.Calendar.{monthLength, validDate}
 use Rattle.dates.proofs.inner.valid.Statement.{statement}
 use Rattle.dates.proofs.inner.valid.Tie as tie
 
+-- ---- what each call gives
+at-month : (c : tie.After-in-range) → inRange (pos 1) (pos 12) (c .before .before .args .date .month) ≡ c .in-range .result
+at-month c =
+    let told = c .before in
+    sym (rw (read-back (told .before .args .date .month) (told .struct-told .given .1 .0 .1)) at (c .in-range .ensures))
+
+a-month : (c : tie.Else1) → inRange (pos 1) (pos 12) (c .before .before .before .args .date .month) ≡ true
+a-month c = at-month (c .before) ∙ not-false (c .before .in-range .result) (c .if1 .left)
+
+at-length : (c : tie.After-month-length) → (let date = c .before .before .before .before .before .args .date in toZ w64 (ofZ w64 (c .month-length .result)) ≡ pos (monthLength (date .year) (date .month)))
+at-length c =
+    let told = c .before in
+    let month = told .before .before .before in
+    let date = month .before .args .date in
+    read-back (c .month-length .result) (c .month-length .ok)
+    ∙ (rw (read-back (date .year) (told .struct-told2 .given .0 .1), read-back (date .month) (month .struct-told .given .1 .0 .1)) at (c .month-length .ensures))
+
+-- ---- the needs
+in-range-requires : tie.Need-in-range-requires
+in-range-requires c κs = search needs
+
 returns : tie.Need-returns
-returns c =
-    let date = c .before .before .before .before .args .date in
-    let f : SFits w64 (date .month) = search needs in
-    no-month-below (date .year) (date .month) (date .day) (rw (toZ-ofZ f) at (c .if1 .taken))
-
-returns-2 : tie.Need-returns-2
-returns-2 c =
-    let date = c .before .before .before .before .before .args .date in
-    let f : SFits w64 (date .month) = search needs in
-    no-month-above (date .year) (date .month) (date .day) (rw (toZ-ofZ f) at (c .before .if1 .left)) (rw (toZ-ofZ f) at (c .if2 .taken))
-
-returns-3 : tie.Need-returns-3
-returns-3 c =
-    let date = c .before .before .before .before .before .before .args .date in
-    let f : SFits w64 (date .month) = search needs in
-    let g : SFits w64 (date .day) = search needs in
-    no-day-below (date .year) (date .month) (date .day) (rw (toZ-ofZ f) at (c .before .before .if1 .left)) (rw (toZ-ofZ f) at (c .before .if2 .left)) (rw (toZ-ofZ g) at (c .if3 .taken))
+unfolding validDate
+returns c = rw (at-month (c .before) ∙ not-true (c .before .in-range .result) (c .if1 .taken))
 
 month-length-requires : tie.Need-month-length-requires
 month-length-requires c κs =
-    let m = c .before .before .before .before .before .before .args .date .month in
-    let f : SFits w64 m = search needs in
-    let p : ltZ m (pos 1) ≡ false = rw (toZ-ofZ f) at (c .before .before .if1 .left) in
-    let q : ltZ (pos 12) m ≡ false = rw (toZ-ofZ f) at (c .before .if2 .left) in
-    rw (toZ-ofZ f) (lt-no {a = m} {b = pos 1} p, lt-no {a = pos 12} {b = m} q)
+    let told = c .before .before .before in
+    let m = told .before .args .date .month in
+    rw (read-back m (told .struct-told .given .1 .0 .1)) (in-range-says (pos 1) (pos 12) m (a-month (c .before)))
 
-returns-4 : tie.Need-returns-4
-returns-4 c =
-    let date = c .before .before .before .before .before .before .before .before .args .date in
-    let y : SFits w64 (date .year) = search needs in
-    let f : SFits w64 (date .month) = search needs in
-    let g : SFits w64 (date .day) = search needs in
-    let h : SFits w64 (c .before .month-length .result) = search needs in
-    let l = rw (toZ-ofZ y, toZ-ofZ f) at (c .before .month-length .ensures) in
-    no-day-above (date .year) (date .month) (date .day) (rw (toZ-ofZ f) at (c .before .before .before .before .if1 .left)) (rw (toZ-ofZ f) at (c .before .before .before .if2 .left)) (rw (toZ-ofZ g) at (c .before .before .if3 .left)) (rw (toZ-ofZ h, toZ-ofZ g, l) at (c .if4 .taken))
+in-range-requires-2 : tie.Need-in-range-requires-2
+in-range-requires-2 c κs = search needs
 
-returns-5 : tie.Need-returns-5
-returns-5 c =
-    let date = c .before .before .before .before .before .before .before .before .args .date in
-    let y : SFits w64 (date .year) = search needs in
-    let f : SFits w64 (date .month) = search needs in
-    let g : SFits w64 (date .day) = search needs in
-    let h : SFits w64 (c .before .month-length .result) = search needs in
-    let l = rw (toZ-ofZ y, toZ-ofZ f) at (c .before .month-length .ensures) in
-    is-date (date .year) (date .month) (date .day) (rw (toZ-ofZ f) at (c .before .before .before .before .if1 .left)) (rw (toZ-ofZ f) at (c .before .before .before .if2 .left)) (rw (toZ-ofZ g) at (c .before .before .if3 .left)) (rw (toZ-ofZ h, toZ-ofZ g, l) at (c .if4 .left))
+returns-2 : tie.Need-returns-2
+unfolding validDate
+returns-2 c =
+    let told = c .before in
+    let length = told .before in
+    let month = length .before .before in
+    let date = month .before .before .before .args .date in
+    rw (a-month month) (rw (at-length length, read-back (date .day) (told .struct-told3 .given .1 .1 .0 .1)) at (c .in-range2 .ensures))
 
 pub valid-spec : {M : Type 1} → statement M
-valid-spec = tie.close (tie.spec returns returns-2 returns-3 month-length-requires returns-4 returns-5)
+valid-spec =
+    tie.close
+    (tie.spec in-range-requires returns month-length-requires in-range-requires-2 returns-2)

@@ -1,113 +1,59 @@
 -- `dates::inner::year_of` meets its contract. Assumes nothing.
-use mathlib.Core.Path.{_≡_, _∙_}
-use mathlib.Core.Bool.{true, false}
-use lib.Signed.{ltZ}
+use mathlib.Core.Path.{_≡_, sym, _∙_}
 use borrow.Author.Needs.{needs}
+use lib.Signed.{ltZ}
 use mir.Syntax.{w64}
-use mir.Val.{SFits}
+use mir.Val.{toZ, ofZ}
 use mir.Facts.{toZ-ofZ}
-use Rattle.whole.specs.Ranges.{fits, within, bounds}
-use Rattle.whole.specs.Floor.{bound-floor}
-use Rattle.dates.specs.Calendar.{guess, newYear, yearOf}
+use Rattle.whole.specs.Ranges.{fits, within, bounds, read-back}
+use Rattle.dates.specs.Calendar.{newYear, yearOrNext, yearOf}
+use Rattle.dates.specs.theory.Sizes.{near-small}
 use Rattle.dates.proofs.inner.year_of.Statement.{statement}
 use Rattle.dates.proofs.inner.year_of.Tie as tie
 
-multiply-requires : tie.Need-multiply-requires
-multiply-requires c κs = fits (search bounds) tt
+-- ---- what each call gives
+at-near : (c : tie.After-year-or-next) → toZ w64 (ofZ w64 (c .year-or-next .result)) ≡ yearOrNext (c .before .args .day .0)
+at-near c = read-back (c .year-or-next .result) (c .year-or-next .ok) ∙ c .year-or-next .ensures
 
-add-requires : tie.Need-add-requires
-add-requires c κs =
-    let f : SFits w64 (c .before .args .n) = search needs in
-    let g : SFits w64 (c .multiply .result) = search needs in
-    let e = rw (toZ-ofZ f) at (c .multiply .ensures) in
-    rw (toZ-ofZ g, e) (fits (search bounds) tt)
+at-first : (c : tie.After-new-year) → c .new-year .result .0 ≡ newYear (yearOrNext (c .before .before .args .day .0))
+at-first c = rw (at-near (c .before)) at (c .new-year .ensures)
 
-floor-div-requires : tie.Need-floor-div-requires
-floor-div-requires c κs = search needs
-
-add-requires-2 : tie.Need-add-requires-2
-add-requires-2 c κs =
-    let f : SFits w64 (c .before .before .before .args .n) = search needs in
-    let g : SFits w64 (c .before .before .multiply .result) = search needs in
-    let h : SFits w64 (c .before .add .result) = search needs in
-    let i : SFits w64 (c .floor-div .result) = search needs in
-    let e = rw (toZ-ofZ f) at (c .before .before .multiply .ensures) in
-    let e2 = rw (toZ-ofZ g, e) at (c .before .add .ensures) in
-    let e3 = rw (toZ-ofZ h, e2) at (c .floor-div .ensures) in
-    rw (toZ-ofZ i, e3) (fits (search (bounds, bound-floor) depth 9) tt)
+-- ---- the needs
+year-or-next-requires : tie.Need-year-or-next-requires
+year-or-next-requires c κs = search needs
 
 new-year-requires : tie.Need-new-year-requires
 new-year-requires c κs =
-    let f : SFits w64 (c .before .before .before .before .args .n) = search needs in
-    let g : SFits w64 (c .before .before .before .multiply .result) = search needs in
-    let h : SFits w64 (c .before .before .add .result) = search needs in
-    let i : SFits w64 (c .before .floor-div .result) = search needs in
-    let j : SFits w64 (c .add2 .result) = search needs in
-    let e = rw (toZ-ofZ f) at (c .before .before .before .multiply .ensures) in
-    let e2 = rw (toZ-ofZ g, e) at (c .before .before .add .ensures) in
-    let e3 = rw (toZ-ofZ h, e2) at (c .before .floor-div .ensures) in
-    let e4 = rw (toZ-ofZ i, e3) at (c .add2 .ensures) in
-    rw (toZ-ofZ j, e4) (within (search (bounds, bound-floor) depth 9) tt)
+    let small = near-small (c .before .args .day .0) (c .before .pre) in
+    rw (at-near c) (within (search bounds) tt)
 
-subtract-requires : tie.Need-subtract-requires
-subtract-requires c κs =
-    let f : SFits w64 (c .before .before .before .before .before .before .args .n) = search needs in
-    let g : SFits w64 (c .before .before .before .before .before .multiply .result) = search needs in
-    let h : SFits w64 (c .before .before .before .before .add .result) = search needs in
-    let i : SFits w64 (c .before .before .before .floor-div .result) = search needs in
-    let j : SFits w64 (c .before .before .add2 .result) = search needs in
-    let e = rw (toZ-ofZ f) at (c .before .before .before .before .before .multiply .ensures) in
-    let e2 = rw (toZ-ofZ g, e) at (c .before .before .before .before .add .ensures) in
-    let e3 = rw (toZ-ofZ h, e2) at (c .before .before .before .floor-div .ensures) in
-    let e4 = rw (toZ-ofZ i, e3) at (c .before .before .add2 .ensures) in
-    rw (toZ-ofZ j, e4) (fits (search (bounds, bound-floor) depth 9) tt)
+sub-result : tie.Need-sub-result
+sub-result c =
+    let near = c .before .before .before .before .before .before in
+    let small = near-small (near .before .args .day .0) (near .before .pre) in
+    rw (at-near near) (fits (search bounds) tt)
+
+-- the test decides as the definition's does
+at-test : (c : tie.After-struct-told2) →
+    (let first = c .before .before .before .before in
+    let n = first .before .before .args .day .0 in
+    ltZ (toZ w64 (ofZ w64 n)) (toZ w64 (ofZ w64 (first .new-year .result .0))) ≡ ltZ n (newYear (yearOrNext n)))
+at-test c =
+    let told = c .before .before in
+    let first = told .before .before in
+    rw (read-back (first .before .before .args .day .0) (told .struct-told .given .0 .1), read-back (first .new-year .result .0) (c .struct-told2 .given .0 .1), at-first first)
 
 returns : tie.Need-returns
-unfolding guess yearOf
+unfolding yearOf
 returns c =
-    let n = c .before .before .before .before .before .before .before .args .n in
-    let f : SFits w64 n = search needs in
-    let g : SFits w64 (c .before .before .before .before .before .before .multiply .result) = search needs in
-    let h : SFits w64 (c .before .before .before .before .before .add .result) = search needs in
-    let i : SFits w64 (c .before .before .before .before .floor-div .result) = search needs in
-    let j : SFits w64 (c .before .before .before .add2 .result) = search needs in
-    let k : SFits w64 (c .before .before .new-year .result) = search needs in
-    let l : SFits w64 (c .subtract .result) = search needs in
-    let e = rw (toZ-ofZ f) at (c .before .before .before .before .before .before .multiply .ensures) in
-    let e2 = rw (toZ-ofZ g, e) at (c .before .before .before .before .before .add .ensures) in
-    let e3 = rw (toZ-ofZ h, e2) at (c .before .before .before .before .floor-div .ensures) in
-    let e4 : c .before .before .before .add2 .result ≡ guess n = rw (toZ-ofZ i, e3) at (c .before .before .before .add2 .ensures) in
-    let e5 = rw (toZ-ofZ j, e4) at (c .before .before .new-year .ensures) in
-    let t : ltZ n (newYear (guess n)) ≡ true = rw (toZ-ofZ f, toZ-ofZ k, e5) at (c .before .if1 .taken) in
-    rw t (toZ-ofZ l ∙ (rw (toZ-ofZ j, e4) at (c .subtract .ensures)))
+    let near = c .before .before .before .before .before .before in
+    rw (sym (at-test (c .before)) ∙ c .if1 .taken, toZ-ofZ (sub-result c), at-near near)
 
 returns-2 : tie.Need-returns-2
-unfolding guess yearOf
+unfolding yearOf
 returns-2 c =
-    let n = c .before .before .before .before .before .before .args .n in
-    let f : SFits w64 n = search needs in
-    let g : SFits w64 (c .before .before .before .before .before .multiply .result) = search needs in
-    let h : SFits w64 (c .before .before .before .before .add .result) = search needs in
-    let i : SFits w64 (c .before .before .before .floor-div .result) = search needs in
-    let j : SFits w64 (c .before .before .add2 .result) = search needs in
-    let k : SFits w64 (c .before .new-year .result) = search needs in
-    let e = rw (toZ-ofZ f) at (c .before .before .before .before .before .multiply .ensures) in
-    let e2 = rw (toZ-ofZ g, e) at (c .before .before .before .before .add .ensures) in
-    let e3 = rw (toZ-ofZ h, e2) at (c .before .before .before .floor-div .ensures) in
-    let e4 : c .before .before .add2 .result ≡ guess n = rw (toZ-ofZ i, e3) at (c .before .before .add2 .ensures) in
-    let e5 = rw (toZ-ofZ j, e4) at (c .before .new-year .ensures) in
-    let t : ltZ n (newYear (guess n)) ≡ false = rw (toZ-ofZ f, toZ-ofZ k, e5) at (c .if1 .left) in
-    rw t (toZ-ofZ j ∙ e4)
+    let near = c .before .before .before .before .before .before in
+    rw (sym (at-test (c .before)) ∙ c .if1 .left, at-near near)
 
 pub year-of-spec : {M : Type 1} → statement M
-year-of-spec =
-    tie.close
-    (tie.spec
-    multiply-requires
-    add-requires
-    floor-div-requires
-    add-requires-2
-    new-year-requires
-    subtract-requires
-    returns
-    returns-2)
+year-of-spec = tie.close (tie.spec year-or-next-requires new-year-requires sub-result returns returns-2)

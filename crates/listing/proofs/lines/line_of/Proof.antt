@@ -6,57 +6,52 @@ use lib.IntN.{ℤ, pos}
 use lib.ListN.{getD}
 use lib.Signed.{_<ℤ_}
 use mathlib.Core.List.{List}
-use mathlib.Core.Path.{_≡_, ap}
-use mir.Facts.{toZ-ofZ}
-use mir.Syntax.{w64}
-use mir.Val.{SFits}
-use Rattle.clock.specs.Answers.{utc8}
-use Rattle.clock.specs.Clock.{shownIn}
+use mathlib.Core.Path.{_≡_, ap, _∙_}
+use Rattle.whole.specs.Floor.{floorMod}
+use Rattle.whole.specs.Ranges.{back}
+use Rattle.text.specs.declared.Moment.{Moment}
+use Rattle.clock.specs.Clock.{utc8, shownIn}
 use Rattle.clock.specs.declared.ShownTime.{ShownTime}
-use Rattle.listing.specs.Lines.{none, momentOf, momentLine}
-use Rattle.listing.specs.Listing.{letter, circle, second, lineOf}
-use Rattle.listing.specs.Nth as nth
+use Rattle.series.specs.declared.Body.{Body}
+use Rattle.series.specs.declared.Body.the-variants.{Sun, Moon}
+use Rattle.series.specs.Bodies.{numbers}
+use Rattle.series.specs.Series.{Series, series}
 use Rattle.marks.specs.Listed.{listedMarks}
 use Rattle.marks.specs.Marks.{Mark}
-use Rattle.refusals.specs.Verdict.{answered}
-use Rattle.series.specs.declared.Body.the-variants.{Sun, Moon}
-use Rattle.series.specs.declared.Body.{Body}
-use Rattle.text.specs.declared.Moment.{Moment}
-use Rattle.whole.specs.Floor.{floorMod}
+use Rattle.marks.specs.Answers.{noMark}
+use Rattle.inputs.specs.Inputs.{second}
+use Rattle.inputs.specs.theory.Converted.{nth-readable}
+use Rattle.listing.specs.Lines.{momentOf, momentLine}
+use Rattle.listing.specs.Listing.{letter, lineOf}
 use Rattle.listing.proofs.lines.line_of.Statement.{statement}
 use Rattle.listing.proofs.lines.line_of.Tie as tie
+use Rattle.listing.proofs.lines.line_of.Reads as reads
+use Rattle.listing.proofs.lines.line_of.Lts as lts
 
-answer : (body : Body) (leap : List ℤ) (m : Mark) (t : ShownTime) {l i : ℕ} {moment : Moment} → shownIn leap (second m) utc8 ≡ answered t → l ≡ letter body → i ≡ floorMod (m .index) (circle body) → moment ≡ momentOf t → lineOf body leap m ≡ answered (momentLine l i moment)
+line : (body : Body) (leap : List ℤ) (m : Mark) {l i : ℕ} {moment : Moment} → l ≡ letter body → i ≡ floorMod (m .index) (numbers body .circle) → moment ≡ momentOf (shownIn leap (second m) utc8) → momentLine l i moment ≡ lineOf body leap m
 unfolding lineOf
-answer body leap m t p q r u = rw (p, q, r, u)
+line body leap m q r u = rw (q, r, u)
 
-some-circle : (body : Body) → pos 0 <ℤ pos (circle body)
+some-circle : (body : Body) → pos 0 <ℤ pos (numbers body .circle)
 some-circle Sun = record { lt = tt }
 some-circle Moon = record { lt = tt }
 
 nth-mark-requires : tie.Need-nth-mark-requires
-nth-mark-requires c κs = search needs
+nth-mark-requires c κs = (c .pre .0 .is-accepted, c .pre .1)
 
 shown-in-requires : tie.Need-shown-in-requires
 shown-in-requires c κs =
-    let s = c .before .before in
-    let body = s .args .body in
-    let start = s .args .start .0 in
-    let coefs = s .args .coefs .now in
-    let leap = s .args .leap .now in
-    let m = getD (listedMarks body start coefs) (s .args .k) none in
-    let there : c .before .nth-mark .result .second ≡ second m = ap second (c .before .nth-mark .ensures) in
-    let can = nth.second-convertible body start coefs (s .pre .0) (s .args .k) (s .pre .1 .1 .1) in
-    let at = nth.nth-is body start coefs (s .pre .0) (s .args .k) (s .pre .1 .1 .1) in
-    rw there (s .pre .1 .0, (rw at can, (s .pre .1 .1 .0 (s .args .k) (s .pre .1 .1 .1), record { within = lit≤ tt })))
+    let start = c .before .before in
+    let s = series (start .args .body) (start .args .start .0) (start .args .coefs .now) in
+    rw (ap second (c .before .nth-mark .ensures)) (nth-readable (start .args .leap .now) s (start .pre .0) (start .args .k) (start .pre .1) utc8 (record { within = lit≤ tt }))
 
 circle-of-requires : tie.Need-circle-of-requires
 circle-of-requires c κs = search needs
 
 floor-mod-requires : tie.Need-floor-mod-requires
 floor-mod-requires c κs =
-    let fc : SFits w64 (c .before .circle-of .result) = search needs in
-    rw (toZ-ofZ fc, c .before .circle-of .ensures) (some-circle (c .before .before .before .before .before .args .body))
+    let circle = c .before in
+    rw (back (circle .circle-of .result) (circle .circle-of .ok), circle .circle-of .ensures) (some-circle (circle .before .before .before .before .args .body))
 
 letter-of-requires : tie.Need-letter-of-requires
 letter-of-requires c κs = search needs
@@ -69,19 +64,22 @@ moment-of-requires c κs = search needs
 
 returns : tie.Need-returns
 returns c =
-    let s = c .before .before .before .before .before .before .before .before .before in
-    let body = s .args .body in
-    let start = s .args .start .0 in
-    let coefs = s .args .coefs .now in
-    let leap = s .args .leap .now in
-    let m = getD (listedMarks body start coefs) (s .args .k) none in
-    let there : c .before .before .before .before .before .before .before .before .nth-mark .result .second ≡ second m = ap second (c .before .before .before .before .before .before .before .before .nth-mark .ensures) in
-    let fc : SFits w64 (c .before .before .before .before .before .circle-of .result) = search needs in
-    let ff : SFits w64 (c .before .before .before .floor-mod .result) = search needs in
-    let fi : SFits w64 (c .before .before .before .before .before .before .before .before .nth-mark .result .index) = record { sfits = c .before .before .before .before .struct-told .given .0 .1 } in
-    let index : c .before .before .before .before .before .before .before .before .nth-mark .result .index ≡ m .index = ap (λ (x : Mark). x .index) (c .before .before .before .before .before .before .before .before .nth-mark .ensures) in
-    let turn : c .before .absolute .result ≡ floorMod (m .index) (circle body) = (rw (toZ-ofZ ff, c .before .before .before .floor-mod .ensures, toZ-ofZ fc, toZ-ofZ fi, c .before .before .before .before .before .circle-of .ensures, index) at (c .before .absolute .ensures)) in
-    answer body leap m (c .before .before .before .before .before .before .shown-in .result) (rw there at (c .before .before .before .before .before .before .shown-in .ensures)) (c .before .before .letter-of .ensures) turn (c .moment-of .ensures)
+    let absolute = c .before in
+    let turn = absolute .before .before in
+    let told = turn .before in
+    let circle = told .before in
+    let shown = circle .before in
+    let nth = shown .before .before in
+    let start = nth .before in
+    let body = start .args .body in
+    let s = series body (start .args .start .0) (start .args .coefs .now) in
+    let m = getD (listedMarks s) (start .args .k) noMark in
+    let there = ap second (nth .nth-mark .ensures) in
+    let index : nth .nth-mark .result .index ≡ m .index = ap (λ (x : Mark). x .index) (nth .nth-mark .ensures) in
+    let is : absolute .absolute .result ≡ floorMod (m .index) (numbers body .circle) =
+    rw (back (turn .floor-mod .result) (turn .floor-mod .ok), turn .floor-mod .ensures, back (circle .circle-of .result) (circle .circle-of .ok), back (nth .nth-mark .result .index) (told .struct-told .given .0 .1), circle .circle-of .ensures, index) at (absolute .absolute .ensures)
+    in
+    line body (start .args .leap .now) m (absolute .before .letter-of .ensures) is (c .moment-of .ensures ∙ ap momentOf (rw there at (shown .shown-in .ensures)))
 
 pub line-of-spec : {M : Type 1} → statement M
 line-of-spec =

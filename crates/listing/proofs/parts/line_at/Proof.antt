@@ -2,44 +2,40 @@
 use Prim.Native.Nat.{ℕ, _+_, _-_, _<_}
 use lib.ListN.{length, getD}
 use mathlib.Core.List.{[]}
-use mathlib.Core.Path.{_≡_, ap, _∙_}
+use mathlib.Core.Path.{_≡_, sym, ap, _∙_}
 use native.Mathlib.Omega.{arith}
-use Rattle.listing.specs.Ready.{inputOf, answer, texts, texts-length, sun-text, moon-text}
 use Rattle.marks.specs.Listed.{listedMarks}
-use Rattle.series.specs.declared.Body.the-variants.{Sun, Moon}
+use Rattle.inputs.specs.Inputs.{Inputs, inputs, sun, moon}
+use Rattle.listing.specs.Listing.{linesOf}
+use Rattle.listing.specs.theory.Numbered.{lines-count, sun-line, moon-line}
 use Rattle.listing.proofs.parts.line_at.Statement.{statement}
 use Rattle.listing.proofs.parts.line_at.Tie as tie
 
+abbrev inputs-of : tie.Start → Inputs
+inputs-of c = inputs (c .args .leap .now) (c .args .sunstart .0) (c .args .sun .now) (c .args .moonstart .0) (c .args .moon .now)
+
+-- behind the Sun's lines
+moon-place : (c : tie.Else1) → c .before .args .i - c .before .args .suns < length (listedMarks (moon (inputs-of (c .before))))
+moon-place c = let start = c .before in omega (arith, start .pre .1 .0, start .pre .1 .1, lines-count (inputs-of start), c .if1 .left)
+
 line-of-requires : tie.Need-line-of-requires
-line-of-requires c κs =
-    let s = c .before in
-    let input = inputOf (s .args .leap .now) (s .args .sunstart .0) (s .args .sun .now) (s .args .moonstart .0) (s .args .moon .now) in
-    let r = s .pre .0 in
-    (r .sun-accepted, (r .leap-lawful, (r .sun-held, omega (arith, s .pre .1 .0, c .if1 .taken))))
+line-of-requires c κs = let start = c .before in (start .pre .0 .sun-ready, omega (arith, start .pre .1 .0, c .if1 .taken))
 
 returns : tie.Need-returns
 returns c =
-    let s = c .before .before in
-    let input = inputOf (s .args .leap .now) (s .args .sunstart .0) (s .args .sun .now) (s .args .moonstart .0) (s .args .moon .now) in
-    let r = s .pre .0 in
-    sun-text input (s .args .i) (omega (arith, s .pre .1 .0, c .before .if1 .taken)) ∙ ap answer (c .line-of .ensures)
+    let start = c .before .before in
+    c .line-of .ensures ∙ sym (sun-line (inputs-of start) (start .args .i) (omega (arith, start .pre .1 .0, c .before .if1 .taken)))
 
 line-of-requires-2 : tie.Need-line-of-requires-2
-line-of-requires-2 c κs =
-    let s = c .before in
-    let input = inputOf (s .args .leap .now) (s .args .sunstart .0) (s .args .sun .now) (s .args .moonstart .0) (s .args .moon .now) in
-    let r = s .pre .0 in
-    let k : s .args .i - s .args .suns < length (listedMarks Moon (s .args .moonstart .0) (s .args .moon .now)) = omega (arith, s .pre .1 .0, s .pre .1 .1, texts-length input, c .if1 .left) in
-    (r .moon-accepted, (r .leap-lawful, (r .moon-held, k)))
+line-of-requires-2 c κs = (c .before .pre .0 .moon-ready, moon-place c)
 
 returns-2 : tie.Need-returns-2
 returns-2 c =
-    let s = c .before .before in
-    let input = inputOf (s .args .leap .now) (s .args .sunstart .0) (s .args .sun .now) (s .args .moonstart .0) (s .args .moon .now) in
-    let r = s .pre .0 in
-    let k : s .args .i - s .args .suns < length (listedMarks Moon (s .args .moonstart .0) (s .args .moon .now)) = omega (arith, s .pre .1 .0, s .pre .1 .1, texts-length input, c .before .if1 .left) in
-    let at : s .args .i ≡ length (listedMarks Sun (s .args .sunstart .0) (s .args .sun .now)) + (s .args .i - s .args .suns) = omega (arith, s .pre .1 .0, c .before .if1 .left) in
-    ap (λ (n : ℕ). getD (texts input) n []) at ∙ moon-text input (s .args .i - s .args .suns) k ∙ ap answer (c .line-of2 .ensures)
+    let start = c .before .before in
+    let i = inputs-of start in
+    let k = start .args .i - start .args .suns in
+    let at : length (listedMarks (sun i)) + k ≡ start .args .i = omega (arith, start .pre .1 .0, c .before .if1 .left) in
+    c .line-of2 .ensures ∙ sym (moon-line i k (moon-place (c .before))) ∙ ap (λ (n : ℕ). getD (linesOf i) n []) at
 
 pub line-at-spec : {M : Type 1} → statement M
 line-at-spec = tie.close (tie.spec line-of-requires returns line-of-requires-2 returns-2)

@@ -1,10 +1,15 @@
 -- `listing::parts::put_input` meets its contract. Assumes nothing.
 use borrow.Author.Needs.{needs}
-use mathlib.Core.Path.{ap, subst}
-use Rattle.listing.specs.Listing.{printed}
-use Rattle.listing.specs.Ready.{inputOf, Judged, ready-lines}
+use mathlib.Core.Path.{_≡_, sym, ap, _∙_}
+use Rattle.refusals.specs.Verdict.{Verdict, answered, refusal, accepted, accepted-is, refused-first, accepted-first}
+use Rattle.inputs.specs.Inputs.{Inputs, inputs, inputsJudged}
+use Rattle.inputs.specs.Theorems.{known}
+use Rattle.listing.specs.Listing.{linesOf, listed, printed}
 use Rattle.listing.proofs.parts.put_input.Statement.{statement}
 use Rattle.listing.proofs.parts.put_input.Tie as tie
+
+abbrev inputs-of : tie.Start → Inputs
+inputs-of c = inputs (c .args .leap .now) (c .args .sunstart .0) (c .args .sun .now) (c .args .moonstart .0) (c .args .moon .now)
 
 judge-requires : tie.Need-judge-requires
 judge-requires c κs = search needs
@@ -19,30 +24,32 @@ same-length : tie.Need-same-length
 same-length c = search needs
 
 returns : tie.Need-returns
+unfolding listed
 returns c =
-    let s = c .before .before .before .before .before .before .before .before .before in
-    let input = inputOf (s .args .leap .now) (s .args .sunstart .0) (s .args .sun .now) (s .args .moonstart .0) (s .args .moon .now) in
-    let refused = subst (Judged input) (c .before .before .before .before .before .check .given .1) (c .before .before .before .before .before .before .before .judge .ensures) in
-    rw (ap printed refused) (c .before .before .put-refusal .ensures)
+    let told = c .before .before .before .before .before in
+    let judged = told .before .before in
+    let i = inputs-of (judged .before .before) in
+    rw (ap printed (sym (refused-first (answered (linesOf i)) (judged .judge .ensures) (told .check .given .1)))) (c .before .before .put-refusal .ensures)
 
 enum-told : tie.Need-enum-told
 enum-told c = search needs
 
 put-lines-requires : tie.Need-put-lines-requires
 put-lines-requires c κs =
-    let s = c .before .before .before .before .before in
-    let input = inputOf (s .args .leap .now) (s .args .sunstart .0) (s .args .sun .now) (s .args .moonstart .0) (s .args .moon .now) in
-    subst (Judged input) (c .before .enum-told .given .1) (c .before .before .before .judge .ensures)
+    let told = c .before in
+    let judged = told .before .before in
+    known (inputs-of (judged .before .before)) (accepted-is (judged .judge .ensures) (told .enum-told .given .1))
 
 same-length-2 : tie.Need-same-length-2
 same-length-2 c = search needs
 
 returns-2 : tie.Need-returns-2
+unfolding listed
 returns-2 c =
-    let s = c .before .before .before .before .before .before .before .before in
-    let input = inputOf (s .args .leap .now) (s .args .sunstart .0) (s .args .sun .now) (s .args .moonstart .0) (s .args .moon .now) in
-    let ready = subst (Judged input) (c .before .before .before .before .enum-told .given .1) (c .before .before .before .before .before .before .judge .ensures) in
-    rw (ap printed (ready-lines input ready)) (c .before .before .put-lines .ensures)
+    let told = c .before .before .before .before in
+    let judged = told .before .before in
+    let i = inputs-of (judged .before .before) in
+    rw (ap printed (sym (accepted-first (answered (linesOf i)) (judged .judge .ensures) (told .enum-told .given .1)))) (c .before .before .put-lines .ensures)
 
 pub put-input-spec : {M : Type 1} → statement M
 put-input-spec =

@@ -1,159 +1,158 @@
--- `listing::parts::put_lines` meets its contract: the loop's invariant is `Printed`. Assumes nothing.
+-- `listing::parts::put_lines` meets its contract: the loop's invariant is `Printed`. In the needs, `loop` is the place where a turn begins. Assumes nothing.
 use Prim.Native.Nat.{ℕ, _+_, _-_, _≤_, _<_}
 use borrow.Author.Needs.{needs}
 use lib.ListN.{length, getD, take, drop}
 use mathlib.Core.List.{List, [], _++_}
 use mathlib.Core.Path.{_≡_, sym, ap, ap₂, subst, _∙_}
 use native.Mathlib.Omega.{arith}
-use Rattle.listing.proofs.Printed.{Printed, start, next, room-length, stop-full, stop-end}
-use Rattle.listing.specs.Lines.{lineText}
-use Rattle.listing.specs.Nth.{marks-few}
-use Rattle.listing.specs.Ready.{inputOf, texts, texts-length}
-use Rattle.listing.specs.declared.lines.Line.{Line}
-use Rattle.series.specs.declared.Body.the-variants.{Sun, Moon}
 use Rattle.text.specs.Text.{lineLength, line-length}
+use Rattle.marks.specs.theory.Nth.{marks-few}
+use Rattle.inputs.specs.Inputs.{Inputs, inputs, sun, moon}
+use Rattle.listing.specs.declared.lines.Line.{Line}
+use Rattle.listing.specs.Lines.{lineText}
+use Rattle.listing.specs.Listing.{linesOf}
+use Rattle.listing.specs.theory.Numbered.{lines-count}
+use Rattle.listing.proofs.Printed.{Printed, start, next, room-length, stop-full, stop-end}
 use Rattle.listing.proofs.parts.put_lines.Statement.{statement}
 use Rattle.listing.proofs.parts.put_lines.Tie as tie
-
-size-of : (r : Line) → length (lineText r) ≡ lineLength (r .index)
-size-of r = line-length (r .letter) (r .index) (r .moment .year) (r .moment .month) (r .moment .day) (r .moment .hour) (r .moment .minute) (r .moment .second) (r .moment .millisecond)
+use Rattle.listing.proofs.parts.put_lines.Reads as reads
+use Rattle.listing.proofs.parts.put_lines.Lts as lts
+use Rattle.listing.proofs.parts.line_at.Reads as line-at-reads
+use Rattle.marks.proofs.inner.count.Reads as count-reads
+use Rattle.text.proofs.inner.line_length.Reads as line-length-reads
+use Rattle.text.proofs.inner.put_line.Reads as put-line-reads
 
 abbrev Inv-loop : tie.InvT-loop
-Inv-loop leap sunstart sun moonstart moon from room₀ suns moons total i₀ at₀ room i at = Printed (texts (inputOf leap (sunstart .0) sun (moonstart .0) moon)) from room₀ room i at
+Inv-loop leap sunstart sun moonstart moon from room₀ suns moons total i₀ at₀ room i at = Printed (linesOf (inputs leap (sunstart .0) sun (moonstart .0) moon)) from room₀ room i at
 
 abbrev μ-loop : tie.MeasureT-loop
 μ-loop leap sunstart sun moonstart moon from room₀ suns moons total i₀ at₀ room i at = total - i
 
+abbrev called : lts.Claims
+called = (
+  count-reads.Asked,
+  count-reads.Learnt,
+  line-at-reads.Asked,
+  line-at-reads.Learnt,
+  line-length-reads.Asked,
+  line-length-reads.Learnt,
+  put-line-reads.Asked,
+  put-line-reads.Learnt,
+)
+
+-- ---- what is known once the lines are counted
+abbrev Counted : Type 0
+Counted = lts.After-count2 called reads.Pre reads.Post Inv-loop μ-loop
+
+abbrev inputs-of : Counted → Inputs
+inputs-of c = let a = c .before .before .before .args in inputs (a .leap .now) (a .sunstart .0) (a .sun .now) (a .moonstart .0) (a .moon .now)
+
+counted : (c : Counted) → c .before .count .result + c .count2 .result ≡ length (linesOf (inputs-of c))
+counted c = omega (arith, c .before .count .ensures, c .count2 .ensures, lines-count (inputs-of c))
+
+few : (c : Counted) → length (linesOf (inputs-of c)) ≤ 4000400000000000
+few c =
+    let known = c .before .before .before .pre in
+    omega (arith, lines-count (inputs-of c), marks-few (sun (inputs-of c)) (known .sun-ready .is-accepted), marks-few (moon (inputs-of c)) (known .moon-ready .is-accepted))
+
+-- ---- where a turn begins
+abbrev Loop : Type 0
+Loop = lts.At-loop called reads.Pre reads.Post Inv-loop μ-loop
+
+abbrev lines-at : Loop → List (List ℕ)
+lines-at loop = linesOf (inputs-of (loop .before))
+
+whole-room : (loop : Loop) → (let start = loop .before .before .before .before in length (loop .loop .room) ≡ length (start .args .room .now))
+whole-room loop = let start = loop .before .before .before .before in room-length (lines-at loop) (start .args .from) (start .args .room .now) (loop .loop .inv)
+
+size-of : (r : Line) → length (lineText r) ≡ lineLength (r .index)
+size-of r = line-length (r .letter) (r .index) (r .moment .year) (r .moment .month) (r .moment .day) (r .moment .hour) (r .moment .minute) (r .moment .second) (r .moment .millisecond)
+
+-- ---- the needs
+
 count-requires : tie.Need-count-requires Inv-loop μ-loop
-count-requires c κs = c .before .pre .sun-accepted
+count-requires c κs = c .before .pre .sun-ready .is-accepted
 
 count-requires-2 : tie.Need-count-requires-2 Inv-loop μ-loop
-count-requires-2 c κs = c .before .before .pre .moon-accepted
+count-requires-2 c κs = c .before .before .pre .moon-ready .is-accepted
 
 add-total : tie.Need-add-total Inv-loop μ-loop
-add-total c =
-    let s = c .before .before .before in
-    let input = inputOf (s .args .leap .now) (s .args .sunstart .0) (s .args .sun .now) (s .args .moonstart .0) (s .args .moon .now) in
-    record { fits = omega (arith, c .before .count .ensures, c .count2 .ensures, marks-few Sun (input .sunStart) (input .sun) (s .pre .sun-accepted), marks-few Moon (input .moonStart) (input .moon) (s .pre .moon-accepted)) }
+add-total c = record { fits = omega (arith, counted c, few c) }
 
 loop-holds : tie.Need-loop-holds Inv-loop μ-loop
-loop-holds c =
-    let s = c .before .before .before in
-    let input = inputOf (s .args .leap .now) (s .args .sunstart .0) (s .args .sun .now) (s .args .moonstart .0) (s .args .moon .now) in
-    start (texts input) (s .args .from) (s .args .room .now)
+loop-holds c = let begin = c .before .before .before in start (linesOf (inputs-of c)) (begin .args .from) (begin .args .room .now)
 
 line-at-requires : tie.Need-line-at-requires Inv-loop μ-loop
 line-at-requires c κs =
-    let s = c .before .before .before .before .before in
-    let input = inputOf (s .args .leap .now) (s .args .sunstart .0) (s .args .sun .now) (s .args .moonstart .0) (s .args .moon .now) in
-    let all : c .before .before .before .count .result + c .before .before .count2 .result ≡ length (texts input) = omega (arith, c .before .before .before .count .ensures, c .before .before .count2 .ensures, texts-length input) in
-    (s .pre, (c .before .before .before .count .ensures, omega (arith, c .loop-test .taken)))
+    let counts = c .before .before in
+    (counts .before .before .before .pre, (counts .before .count .ensures, omega (arith, c .loop-test .taken, counted counts)))
 
 sub-if1 : tie.Need-sub-if1 Inv-loop μ-loop
-sub-if1 c =
-    let s = c .before .before .before .before .before .before in
-    let input = inputOf (s .args .leap .now) (s .args .sunstart .0) (s .args .sun .now) (s .args .moonstart .0) (s .args .moon .now) in
-    let all : c .before .before .before .before .count .result + c .before .before .before .count2 .result ≡ length (texts input) = omega (arith, c .before .before .before .before .count .ensures, c .before .before .before .count2 .ensures, texts-length input) in
-    let l = c .before .before .loop in
-    let lines = texts input in
-    let size = room-length lines (s .args .from) (s .args .room .now) (l .inv) in
-    omega (arith, l .inv .inside)
+sub-if1 c = let loop = c .before .before in omega (arith, loop .loop .inv .inside, whole-room loop)
 
 line-length-requires : tie.Need-line-length-requires Inv-loop μ-loop
 line-length-requires c κs = search needs
 
 sub-t20 : tie.Need-sub-t20 Inv-loop μ-loop
-sub-t20 c =
-    let s = c .before .before .before .before .before .before .before .before in
-    let input = inputOf (s .args .leap .now) (s .args .sunstart .0) (s .args .sun .now) (s .args .moonstart .0) (s .args .moon .now) in
-    let all : c .before .before .before .before .before .before .count .result + c .before .before .before .before .before .count2 .result ≡ length (texts input) = omega (arith, c .before .before .before .before .before .before .count .ensures, c .before .before .before .before .before .count2 .ensures, texts-length input) in
-    let l = c .before .before .before .before .loop in
-    let lines = texts input in
-    omega (arith, l .inv .forward)
+sub-t20 c = c .before .before .before .before .loop .inv .forward
 
 same-length : tie.Need-same-length Inv-loop μ-loop
-same-length c =
-    let s = c .before .before .before .before .before .before .before .before in
-    let input = inputOf (s .args .leap .now) (s .args .sunstart .0) (s .args .sun .now) (s .args .moonstart .0) (s .args .moon .now) in
-    let all : c .before .before .before .before .before .before .count .result + c .before .before .before .before .before .count2 .result ≡ length (texts input) = omega (arith, c .before .before .before .before .before .before .count .ensures, c .before .before .before .before .before .count2 .ensures, texts-length input) in
-    let l = c .before .before .before .before .loop in
-    let lines = texts input in
-    room-length lines (s .args .from) (s .args .room .now) (l .inv)
+same-length c = whole-room (c .before .before .before .before)
 
 returns : tie.Need-returns Inv-loop μ-loop
 returns c =
-    let s = c .before .before .before .before .before .before .before .before in
-    let input = inputOf (s .args .leap .now) (s .args .sunstart .0) (s .args .sun .now) (s .args .moonstart .0) (s .args .moon .now) in
-    let all : c .before .before .before .before .before .before .count .result + c .before .before .before .before .before .count2 .result ≡ length (texts input) = omega (arith, c .before .before .before .before .before .before .count .ensures, c .before .before .before .before .before .count2 .ensures, texts-length input) in
-    let l = c .before .before .before .before .loop in
-    let lines = texts input in
-    let r = c .before .before .line-at .result in
-    let size : length (getD lines (l .i) []) ≡ lineLength (r .index) = ap length (c .before .before .line-at .ensures) ∙ size-of r in
-    let whole = room-length lines (s .args .from) (s .args .room .now) (l .inv) in
-    stop-full lines (s .args .from) (s .args .room .now) (l .inv) (omega (arith, c .before .before .before .loop-test .taken)) (omega (arith, c .if1 .taken, c .before .line-length .ensures))
+    let line = c .before .before in
+    let turn = line .before in
+    let loop = turn .before in
+    let begin = loop .before .before .before .before in
+    let lines = lines-at loop in
+    let size : length (getD lines (loop .loop .i) []) ≡ lineLength (line .line-at .result .index) = ap length (sym (line .line-at .ensures)) ∙ size-of (line .line-at .result) in
+    stop-full lines (begin .args .from) (begin .args .room .now) (loop .loop .inv) (omega (arith, turn .loop-test .taken, counted (loop .before))) (omega (arith, c .if1 .taken, c .before .line-length .ensures, whole-room loop))
 
 put-line-requires : tie.Need-put-line-requires Inv-loop μ-loop
 put-line-requires c κs =
-    let s = c .before .before .before .before .before .before .before .before .before .before in
-    let input = inputOf (s .args .leap .now) (s .args .sunstart .0) (s .args .sun .now) (s .args .moonstart .0) (s .args .moon .now) in
-    let all : c .before .before .before .before .before .before .before .before .count .result + c .before .before .before .before .before .before .before .count2 .result ≡ length (texts input) = omega (arith, c .before .before .before .before .before .before .before .before .count .ensures, c .before .before .before .before .before .before .before .count2 .ensures, texts-length input) in
-    let l = c .before .before .before .before .before .before .loop in
-    let lines = texts input in
-    let whole = room-length lines (s .args .from) (s .args .room .now) (l .inv) in
-    omega (arith, c .before .before .if1 .left, c .before .before .before .line-length .ensures, l .inv .inside)
+    let fits = c .before .before in
+    let loop = fits .before .before .before .before in
+    omega (arith, fits .if1 .left, fits .before .line-length .ensures, loop .loop .inv .inside, whole-room loop)
 
 add-i : tie.Need-add-i Inv-loop μ-loop
 add-i c =
-    let s = c .before .before .before .before .before .before .before .before .before .before .before .before .before in
-    let input = inputOf (s .args .leap .now) (s .args .sunstart .0) (s .args .sun .now) (s .args .moonstart .0) (s .args .moon .now) in
-    let all : c .before .before .before .before .before .before .before .before .before .before .before .count .result + c .before .before .before .before .before .before .before .before .before .before .count2 .result ≡ length (texts input) = omega (arith, c .before .before .before .before .before .before .before .before .before .before .before .count .ensures, c .before .before .before .before .before .before .before .before .before .before .count2 .ensures, texts-length input) in
-    record { fits = omega (arith, c .before .before .before .before .before .before .before .before .loop-test .taken, c .before .before .before .before .before .before .before .before .before .before .before .count .ensures, marks-few Sun (input .sunStart) (input .sun) (s .pre .sun-accepted), marks-few Moon (input .moonStart) (input .moon) (s .pre .moon-accepted), c .before .before .before .before .before .before .before .before .before .before .count2 .ensures) }
+    let turn = c .before .before .before .before .before .before .before .before in
+    let counts = turn .before .before in
+    record { fits = omega (arith, turn .loop-test .taken, counted counts, few counts) }
 
 loop-less : tie.Need-loop-less Inv-loop μ-loop
 loop-less c = omega arith
 
 loop-again : tie.Need-loop-again Inv-loop μ-loop
 loop-again c =
-    let s = c .before .before .before .before .before .before .before .before .before .before .before .before .before in
-    let input = inputOf (s .args .leap .now) (s .args .sunstart .0) (s .args .sun .now) (s .args .moonstart .0) (s .args .moon .now) in
-    let all : c .before .before .before .before .before .before .before .before .before .before .before .count .result + c .before .before .before .before .before .before .before .before .before .before .count2 .result ≡ length (texts input) = omega (arith, c .before .before .before .before .before .before .before .before .before .before .before .count .ensures, c .before .before .before .before .before .before .before .before .before .before .count2 .ensures, texts-length input) in
-    let l = c .before .before .before .before .before .before .before .before .before .loop in
-    let lines = texts input in
-    let r = c .before .before .before .before .before .before .before .line-at .result in
-    let size : length (getD lines (l .i) []) ≡ lineLength (r .index) = ap length (c .before .before .before .before .before .before .before .line-at .ensures) ∙ size-of r in
-    let whole = room-length lines (s .args .from) (s .args .room .now) (l .inv) in
-    let more : l .i < length lines = omega (arith, c .before .before .before .before .before .before .before .before .loop-test .taken) in
-    let fits : length (getD lines (l .i) []) ≤ length (s .args .room .now) - l .at = omega (arith, c .before .before .before .before .before .if1 .left, c .before .before .before .before .before .before .line-length .ensures) in
     let put = c .before .before .put-line in
-    let held = put .ensures .1 ∙ ap₂ (λ (x : List ℕ) (n : ℕ). take (l .at) (l .room) ++ x ++ drop (l .at + n) (l .room)) (sym (c .before .before .before .before .before .before .before .line-at .ensures)) (sym size) in
-    subst (λ (n : ℕ). Printed lines (s .args .from) (s .args .room .now) (put .last .0) (l .i + 1) n) (sym (put .ensures .0 ∙ ap (λ (n : ℕ). l .at + n) (sym size))) (next lines (s .args .from) (s .args .room .now) (l .inv) more (put .last .0) fits held)
+    let fitted = c .before .before .before .before .before in
+    let measured = fitted .before in
+    let line = measured .before in
+    let turn = line .before in
+    let loop = turn .before in
+    let begin = loop .before .before .before .before in
+    let lines = lines-at loop in
+    let l = loop .loop in
+    let text : lineText (line .line-at .result) ≡ getD lines (l .i) [] = line .line-at .ensures in
+    let size : length (getD lines (l .i) []) ≡ lineLength (line .line-at .result .index) = ap length (sym text) ∙ size-of (line .line-at .result) in
+    let more : l .i < length lines = omega (arith, turn .loop-test .taken, counted (loop .before)) in
+    let fits : length (getD lines (l .i) []) ≤ length (begin .args .room .now) - l .at = omega (arith, fitted .if1 .left, measured .line-length .ensures, whole-room loop) in
+    let held = put .ensures .1 ∙ ap₂ (λ (x : List ℕ) (n : ℕ). take (l .at) (l .room) ++ x ++ drop (l .at + n) (l .room)) text (sym size) in
+    subst (λ (n : ℕ). Printed lines (begin .args .from) (begin .args .room .now) (put .last .0) (l .i + 1) n) (sym (put .ensures .0 ∙ ap (λ (n : ℕ). l .at + n) (sym size))) (next lines (begin .args .from) (begin .args .room .now) (l .inv) more (put .last .0) fits held)
 
 sub-t23 : tie.Need-sub-t23 Inv-loop μ-loop
-sub-t23 c =
-    let s = c .before .before .before .before .before in
-    let input = inputOf (s .args .leap .now) (s .args .sunstart .0) (s .args .sun .now) (s .args .moonstart .0) (s .args .moon .now) in
-    let all : c .before .before .before .count .result + c .before .before .count2 .result ≡ length (texts input) = omega (arith, c .before .before .before .count .ensures, c .before .before .count2 .ensures, texts-length input) in
-    let l = c .before .loop in
-    let lines = texts input in
-    omega (arith, l .inv .forward)
+sub-t23 c = c .before .loop .inv .forward
 
 same-length-2 : tie.Need-same-length-2 Inv-loop μ-loop
-same-length-2 c =
-    let s = c .before .before .before .before .before in
-    let input = inputOf (s .args .leap .now) (s .args .sunstart .0) (s .args .sun .now) (s .args .moonstart .0) (s .args .moon .now) in
-    let all : c .before .before .before .count .result + c .before .before .count2 .result ≡ length (texts input) = omega (arith, c .before .before .before .count .ensures, c .before .before .count2 .ensures, texts-length input) in
-    let l = c .before .loop in
-    let lines = texts input in
-    room-length lines (s .args .from) (s .args .room .now) (l .inv)
+same-length-2 c = whole-room (c .before)
 
 returns-2 : tie.Need-returns-2 Inv-loop μ-loop
 returns-2 c =
-    let s = c .before .before .before .before .before in
-    let input = inputOf (s .args .leap .now) (s .args .sunstart .0) (s .args .sun .now) (s .args .moonstart .0) (s .args .moon .now) in
-    let all : c .before .before .before .count .result + c .before .before .count2 .result ≡ length (texts input) = omega (arith, c .before .before .before .count .ensures, c .before .before .count2 .ensures, texts-length input) in
-    let l = c .before .loop in
-    let lines = texts input in
-    stop-end lines (s .args .from) (s .args .room .now) (l .inv) (omega (arith, c .loop-test .left))
+    let loop = c .before in
+    let begin = loop .before .before .before .before in
+    stop-end (lines-at loop) (begin .args .from) (begin .args .room .now) (loop .loop .inv) (omega (arith, c .loop-test .left, counted (loop .before)))
 
 pub put-lines-spec : {M : Type 1} → statement M
 put-lines-spec =

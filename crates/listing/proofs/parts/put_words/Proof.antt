@@ -1,8 +1,9 @@
 -- `listing::parts::put_words` meets its contract. Assumes nothing.
 use borrow.Author.Needs.{needs}
 use mathlib.Core.Path.{sym, ap, _∙_}
-use Rattle.listing.specs.Layout.{inputAt, paperPlaces, places-inside}
-use Rattle.listing.specs.Listing.{linesOf, linesOfWords, printed}
+use Rattle.listing.specs.Layout.{inputsAt, paperPlaces}
+use Rattle.listing.specs.theory.Sections.{places-inside}
+use Rattle.listing.specs.Listing.{listed, listedWords, printed}
 use Rattle.refusals.specs.Verdict.{refused-then, answered-then}
 use Rattle.listing.proofs.parts.put_words.Statement.{statement}
 use Rattle.listing.proofs.parts.put_words.Tie as tie
@@ -28,19 +29,19 @@ same-length : tie.Need-same-length
 same-length c = search needs
 
 returns : tie.Need-returns
-unfolding linesOfWords
+unfolding listedWords
 returns c =
     let ws = c .before .before .before .before .before .before .before .before .before .args .words .now in
-    rw (ap printed (sym (refused-then (λ p. linesOf (inputAt ws p)) (sym (ap paperPlaces (c .before .before .before .before .before .r .given .1)) ∙ c .before .before .before .before .before .before .before .find-places .ensures)))) (c .before .before .put-refusal .ensures)
+    rw (ap printed (sym (refused-then (λ p. listed (inputsAt ws p)) (sym (ap paperPlaces (c .before .before .before .before .before .r .given .1)) ∙ c .before .before .before .before .before .before .before .find-places .ensures)))) (c .before .before .put-refusal .ensures)
 
 same-length-2 : tie.Need-same-length-2
 same-length-2 c = search needs
 
 returns-2 : tie.Need-returns-2
-unfolding linesOfWords
+unfolding listedWords
 returns-2 c =
     let ws = c .before .before .before .before .before .before .before .before .before .args .words .now in
-    rw (ap printed (sym (answered-then (λ p. linesOf (inputAt ws p)) (sym (ap paperPlaces (c .before .before .before .before .before .p .given .1)) ∙ c .before .before .before .before .before .before .before .find-places .ensures)))) (c .before .before .put-sections .ensures)
+    rw (ap printed (sym (answered-then (λ p. listed (inputsAt ws p)) (sym (ap paperPlaces (c .before .before .before .before .before .p .given .1)) ∙ c .before .before .before .before .before .before .before .find-places .ensures)))) (c .before .before .put-sections .ensures)
 
 pub put-words-spec : {M : Type 1} → statement M
 put-words-spec =

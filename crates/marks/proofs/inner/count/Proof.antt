@@ -2,7 +2,8 @@
 use mathlib.Core.Path.{sym, _∙_}
 use native.Mathlib.Omega.{arith}
 use borrow.Author.Needs.{needs}
-use Rattle.marks.proofs.Bits.{back}
+use Rattle.whole.specs.Ranges.{back}
+use Rattle.series.specs.Series.{series}
 use Rattle.marks.proofs.Halves.{span, indices-rise, few-marks, marks-of}
 use Rattle.marks.proofs.inner.count.Statement.{statement}
 use Rattle.marks.proofs.inner.count.Tie as tie
@@ -16,7 +17,7 @@ last-reached-requires c κs = search needs
 distance-requires : tie.Need-distance-requires
 distance-requires c κs =
     let start = c .before .before in
-    let s = span (start .args .body) (start .args .start .0) (start .args .coefs .now) (start .pre) (c .before .first-reached .ensures) (c .last-reached .ensures) in
+    let s = span (series (start .args .body) (start .args .start .0) (start .args .coefs .now)) (start .pre) (c .before .first-reached .ensures) (c .last-reached .ensures) in
     let few = few-marks s in
     rw (back (c .before .first-reached .result) (c .before .first-reached .ok), back (c .last-reached .result) (c .last-reached .ok)) (indices-rise s, omega arith)
 
@@ -24,7 +25,7 @@ returns : tie.Need-returns
 returns c =
     let start = c .before .before .before in
     (rw (back (c .before .before .first-reached .result) (c .before .before .first-reached .ok), back (c .before .last-reached .result) (c .before .last-reached .ok)) at (c .distance .ensures))
-    ∙ sym (marks-of (span (start .args .body) (start .args .start .0) (start .args .coefs .now) (start .pre) (c .before .before .first-reached .ensures) (c .before .last-reached .ensures)))
+    ∙ sym (marks-of (span (series (start .args .body) (start .args .start .0) (start .args .coefs .now)) (start .pre) (c .before .before .first-reached .ensures) (c .before .last-reached .ensures)))
 
 pub count-spec : {M : Type 1} → statement M
 count-spec =

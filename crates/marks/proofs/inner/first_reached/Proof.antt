@@ -1,14 +1,13 @@
 -- `marks::inner::first_reached` meets its contract. Assumes nothing.
-use native.Mathlib.Omega.{arith}
 use mathlib.Core.Path.{_∙_}
-use Rattle.whole.specs.Parts.{→≤}
-use Rattle.marks.specs.Span.{span-ordered}
-use Rattle.marks.proofs.Bits.{back}
+use Rattle.whole.specs.Ranges.{back}
+use Rattle.series.specs.Series.{series}
+use Rattle.series.specs.theory.Span.{start-in-span}
 use Rattle.marks.proofs.inner.first_reached.Statement.{statement}
 use Rattle.marks.proofs.inner.first_reached.Tie as tie
 
 index-at-requires : tie.Need-index-at-requires
-index-at-requires c κs = (c .pre, record { from-start = →≤ (omega arith); to-last = span-ordered (c .args .body) (c .args .start .0) (c .args .coefs .now) (c .pre) })
+index-at-requires c κs = (c .pre, start-in-span (series (c .args .body) (c .args .start .0) (c .args .coefs .now)) (c .pre))
 
 returns : tie.Need-returns
 returns c = back (c .index-at .result) (c .index-at .ok) ∙ c .index-at .ensures

@@ -8,7 +8,7 @@ use Rattle.marks.proofs.inner.mark_size.Statement.{statement}
 use Rattle.marks.proofs.inner.mark_size.Tie as tie
 
 abbrev size : Body → ℤ
-size body = pos (numbers body .mark)
+size body = pos (numbers body .markSize)
 
 enum-told : tie.Need-enum-told
 enum-told c = search needs

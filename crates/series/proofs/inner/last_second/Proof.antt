@@ -1,66 +1,68 @@
--- `series::inner::last_second` meets its contract. Assumes nothing.
-use Prim.Native.Nat.{_*_}
+-- `series::inner::last_second` meets its contract. In the needs, `start` is the function's entry. Assumes nothing.
+use mathlib.Core.Path.{_≡_, ap, _∙_}
+use Prim.Native.Nat.{ℕ, _*_}
+use native.Mathlib.Omega.{arith}
 use borrow.Author.Needs.{needs}
 use lib.IntN.{pos}
-use mathlib.Core.Path.{_≡_, _∙_}
-use mir.Facts.{toZ-ofZ}
 use mir.Syntax.{w64}
-use mir.Val.{SFits}
-use native.Mathlib.Omega.{arith}
-use Rattle.series.specs.Known.{facts}
-use Rattle.series.specs.Span.{span-short, end-fits, last-fits}
-use Rattle.series.specs.Bodies.{lawful}
-use Rattle.series.specs.Series.{segments, segmentLength}
+use mir.Val.{ofZ, toZ}
+use Rattle.whole.specs.Ranges.{back}
+use Rattle.series.specs.Bodies.{body-laws}
+use Rattle.series.specs.Series.{series, segments, segmentLength, segmentStart}
+use Rattle.series.specs.theory.Span.{span-short, end-fits, last-fits}
 use Rattle.series.proofs.inner.last_second.Statement.{statement}
 use Rattle.series.proofs.inner.last_second.Tie as tie
+use Rattle.series.proofs.inner.last_second.Reads as reads
+use Rattle.series.proofs.inner.last_second.Lts as lts
+use Rattle.series.proofs.inner.half_length.Reads as half-length-reads
+use Rattle.whole.proofs.inner.add.Reads as add-reads
+use Rattle.whole.proofs.inner.signed.Reads as signed-reads
+use Rattle.whole.proofs.inner.subtract.Reads as subtract-reads
+
+abbrev called : lts.Claims
+called = (half-length-reads.Asked, half-length-reads.Learnt, signed-reads.Asked, signed-reads.Learnt, add-reads.Asked, add-reads.Learnt, subtract-reads.Asked, subtract-reads.Learnt)
+
+-- ---- what is known at each place
+
+at-start : (c : lts.After-signed called reads.Pre reads.Post) → (let start = c .before .before .before in toZ w64 (ofZ w64 (start .args .start .0)) ≡ start .args .start .0)
+at-start c = back (c .before .before .before .args .start .0) (c .before .before .struct-told .given .0 .1)
+
+at-seconds : (c : lts.After-signed called reads.Pre reads.Post) → (let start = c .before .before .before in toZ w64 (ofZ w64 (c .signed .result)) ≡ pos (segmentLength (start .args .body) * segments (start .args .coefs .now)))
+at-seconds c = back (c .signed .result) (c .signed .ok) ∙ (rw (c .before .half-length .ensures) at (c .signed .ensures))
+
+at-end : (c : lts.After-add called reads.Pre reads.Post) → (let start = c .before .before .before .before in toZ w64 (ofZ w64 (c .add .result)) ≡ segmentStart (series (start .args .body) (start .args .start .0) (start .args .coefs .now)) (segments (start .args .coefs .now)))
+at-end c = back (c .add .result) (c .add .ok) ∙ (rw (at-start (c .before), at-seconds (c .before)) at (c .add .ensures))
+
+-- ---- the needs
 
 half-length-requires : tie.Need-half-length-requires
 half-length-requires c κs = search needs
 
 mul-seconds : tie.Need-mul-seconds
-mul-seconds c = record { fits = omega (arith, c .half-length .ensures, lawful (c .before .before .args .body) .short) }
+mul-seconds c = record { fits = omega (arith, c .half-length .ensures, body-laws (c .before .before .args .body) .short) }
 
 mul-seconds-2 : tie.Need-mul-seconds-2
 mul-seconds-2 c =
-    let s = c .before .before in
-    let f = facts (s .args .body) (s .args .start .0) (s .args .coefs .now) (s .pre) in
-    rw (c .half-length .ensures) (record { fits = omega (arith, span-short (s .args .body) f) })
+    let start = c .before .before in
+    rw (c .half-length .ensures) (record { fits = omega (arith, span-short (series (start .args .body) (start .args .start .0) (start .args .coefs .now)) (start .pre)) })
 
 signed-requires : tie.Need-signed-requires
 signed-requires c κs =
-    let s = c .before .before in
-    let f = facts (s .args .body) (s .args .start .0) (s .args .coefs .now) (s .pre) in
-    rw (c .half-length .ensures) (omega (arith, span-short (s .args .body) f))
+    let start = c .before .before in
+    rw (c .half-length .ensures) (omega (arith, span-short (series (start .args .body) (start .args .start .0) (start .args .coefs .now)) (start .pre)))
 
 add-requires : tie.Need-add-requires
 add-requires c κs =
-    let s = c .before .before .before in
-    let f = facts (s .args .body) (s .args .start .0) (s .args .coefs .now) (s .pre) in
-    let fs : SFits w64 (s .args .start .0) = record { sfits = c .before .before .struct-told .given .0 .1 } in
-    let seconds : c .signed .result ≡ pos (segmentLength (s .args .body) * segments (s .args .coefs .now)) = rw (c .before .half-length .ensures) at (c .signed .ensures) in
-    let fd : SFits w64 (c .signed .result) = search needs in
-    rw (toZ-ofZ fs, toZ-ofZ fd, seconds) (end-fits (s .args .body) f)
+    let start = c .before .before .before in
+    rw (at-start c, at-seconds c) (end-fits (series (start .args .body) (start .args .start .0) (start .args .coefs .now)) (start .pre))
 
 subtract-requires : tie.Need-subtract-requires
 subtract-requires c κs =
-    let s = c .before .before .before .before in
-    let f = facts (s .args .body) (s .args .start .0) (s .args .coefs .now) (s .pre) in
-    let fs : SFits w64 (s .args .start .0) = record { sfits = c .before .before .before .struct-told .given .0 .1 } in
-    let seconds : c .before .signed .result ≡ pos (segmentLength (s .args .body) * segments (s .args .coefs .now)) = rw (c .before .before .half-length .ensures) at (c .before .signed .ensures) in
-    let fd : SFits w64 (c .before .signed .result) = search needs in
-    let fe : SFits w64 (c .add .result) = search needs in
-    rw (toZ-ofZ fe, c .add .ensures, toZ-ofZ fs, toZ-ofZ fd, seconds) (last-fits (s .args .body) f)
+    let start = c .before .before .before .before in
+    rw (at-end c) (last-fits (series (start .args .body) (start .args .start .0) (start .args .coefs .now)) (start .pre))
 
 returns : tie.Need-returns
-returns c =
-    let s = c .before .before .before .before .before in
-    let f = facts (s .args .body) (s .args .start .0) (s .args .coefs .now) (s .pre) in
-    let fs : SFits w64 (s .args .start .0) = record { sfits = c .before .before .before .before .struct-told .given .0 .1 } in
-    let seconds : c .before .before .signed .result ≡ pos (segmentLength (s .args .body) * segments (s .args .coefs .now)) = rw (c .before .before .before .half-length .ensures) at (c .before .before .signed .ensures) in
-    let fd : SFits w64 (c .before .before .signed .result) = search needs in
-    let fe : SFits w64 (c .before .add .result) = search needs in
-    let fr : SFits w64 (c .subtract .result) = search needs in
-    toZ-ofZ fr ∙ (rw (toZ-ofZ fe, c .before .add .ensures, toZ-ofZ fs, toZ-ofZ fd, seconds) at (c .subtract .ensures))
+returns c = back (c .subtract .result) (c .subtract .ok) ∙ (rw (at-end (c .before)) at (c .subtract .ensures))
 
 pub last-second-spec : {M : Type 1} → statement M
 last-second-spec =

@@ -1,125 +1,101 @@
--- `series::inner::value` meets its contract: an accepted series has the second's segment, in range, and its place. Assumes nothing.
-use mathlib.Core.Path.{_≡_, refl, _∙_}
-use mathlib.Core.List.{List}
-use Prim.Native.Nat.{ℕ, _+_, _*_, _/_, _<_, _≤_}
+-- `series::inner::value` meets its contract: an accepted series has the second's segment, in range, and its place. In the needs, `start` is the function's
+-- entry, and `told` the place where both seconds are read. Assumes nothing.
+use mathlib.Core.Path.{_≡_, sym, ap, _∙_}
+use Prim.Native.Nat.{ℕ, _/_}
 use native.Mathlib.Omega.{arith}
 use borrow.Author.Needs.{needs}
-use lib.IntN.{ℤ}
-use lib.ListN.{length}
 use mir.Syntax.{w64}
-use mir.Val.{SFits}
-use mir.Facts.{toZ-ofZ}
+use mir.Val.{ofZ, toZ}
+use Rattle.whole.specs.Ranges.{back}
 use Rattle.whole.specs.Distance.{distanceFrom}
-use Rattle.chebyshev.specs.Segment.{InRange, value}
-use Rattle.series.specs.declared.Body.{Body}
-use Rattle.series.specs.Series.{segment, segments, segmentLength, InSpan, placeAfter, valueAt}
-use Rattle.series.specs.Acceptance.{Accepted}
-use Rattle.series.specs.Known.{facts, segment-length, part-is-segment}
-use Rattle.series.specs.Span.{place-within, span-short, distance-in-span, segment-in-span}
+use Rattle.series.specs.Series.{series, segmentLength, segmentAt, placeAt, valueAt}
+use Rattle.series.specs.theory.Known.{facts, segment-length}
+use Rattle.series.specs.theory.Place.{placeAfter, place-by-remainder}
+use Rattle.series.specs.theory.Span.{span-short, distance-in-span, segment-in-span, place-in-span}
 use Rattle.series.proofs.inner.value.Statement.{statement}
 use Rattle.series.proofs.inner.value.Tie as tie
+use Rattle.series.proofs.inner.value.Reads as reads
+use Rattle.series.proofs.inner.value.Lts as lts
+use Rattle.chebyshev.proofs.inner.value.Reads as value-reads
+use Rattle.series.proofs.inner.place_after.Reads as place-after-reads
+use Rattle.series.proofs.inner.segment_after.Reads as segment-after-reads
+use Rattle.series.proofs.inner.segment_of.Reads as segment-of-reads
+use Rattle.whole.proofs.inner.distance.Reads as distance-reads
 
--- what is asked of the distance d and the segment k
-pub record Found (body : Body) (coefs : List ℤ) (d k : ℕ) : Type 0 where
-  pub near : d < 2 * 5529600000
-  pub inside : 14 * k + 14 ≤ length coefs
-  pub fourteen : length (segment coefs k) ≡ 14
-  pub in-range : InRange (segment coefs k)
+abbrev called : lts.Claims
+called = (
+  distance-reads.Asked,
+  distance-reads.Learnt,
+  segment-after-reads.Asked,
+  segment-after-reads.Learnt,
+  segment-of-reads.Asked,
+  segment-of-reads.Learnt,
+  place-after-reads.Asked,
+  place-after-reads.Learnt,
+  value-reads.Asked,
+  value-reads.Learnt,
+)
 
-found : (body : Body) (start : ℤ) (coefs : List ℤ) (second : ℤ) (d k : ℕ) → Accepted body start coefs → InSpan body start coefs second → d ≡ distanceFrom start second → k ≡ d / segmentLength body → Found body coefs d k
-found body start coefs second d k e s p q =
-    let f = facts body start coefs e in
-    let k< : k < segments coefs = rw (q, p) (segment-in-span body f s) in
-    record {
-      near = rw p (omega (arith, distance-in-span body f s, span-short body f));
-      inside = omega (arith, f .ranged .whole-segments);
-      fourteen = segment-length coefs (f .ranged .whole-segments) k k<;
-      in-range = f .ranged .in-range k k<;
-    }
+-- ---- what is known at each place
 
--- so the value there is the value at the second
-there : (body : Body) (start : ℤ) (coefs : List ℤ) (second : ℤ) {d k : ℕ} {x : ℤ} → d ≡ distanceFrom start second → k ≡ d / segmentLength body → x ≡ placeAfter body d → value (segment coefs k) x ≡ valueAt body start coefs second
-unfolding valueAt
-there body start coefs second p q r = rw (r, q, p)
+at-start : (c : lts.After-struct-told2 called reads.Pre reads.Post) → (let start = c .before .before in toZ w64 (ofZ w64 (start .args .start .0)) ≡ start .args .start .0)
+at-start c = back (c .before .before .args .start .0) (c .before .struct-told .given .0 .1)
+
+at-second : (c : lts.After-struct-told2 called reads.Pre reads.Post) → (let start = c .before .before in toZ w64 (ofZ w64 (start .args .second .0)) ≡ start .args .second .0)
+at-second c = back (c .before .before .args .second .0) (c .struct-told2 .given .0 .1)
+
+at-distance : (c : lts.After-distance called reads.Pre reads.Post) → (let start = c .before .before .before in c .distance .result ≡ distanceFrom (start .args .start .0) (start .args .second .0))
+at-distance c = rw (at-start (c .before), at-second (c .before)) at (c .distance .ensures)
+
+at-segment : (c : lts.After-segment-after called reads.Pre reads.Post) → (let start = c .before .before .before .before in c .segment-after .result ≡ segmentAt (series (start .args .body) (start .args .start .0) (start .args .coefs .now)) (start .args .second .0))
+at-segment c =
+    let start = c .before .before .before .before in
+    c .segment-after .ensures ∙ ap (λ (n : ℕ). n / segmentLength (start .args .body)) (at-distance (c .before))
+
+at-place : (c : lts.After-place-after called reads.Pre reads.Post) →
+    (let start = c .before .before .before .before .before .before in
+    toZ w64 (ofZ w64 (c .place-after .result)) ≡ placeAt (series (start .args .body) (start .args .start .0) (start .args .coefs .now)) (start .args .second .0))
+at-place c =
+    let distance = c .before .before .before in
+    let start = distance .before .before .before in
+    back (c .place-after .result) (c .place-after .ok)
+    ∙ c .place-after .ensures
+    ∙ ap (placeAfter (start .args .body)) (at-distance distance)
+    ∙ sym (place-by-remainder (series (start .args .body) (start .args .start .0) (start .args .coefs .now)) (start .pre .1 .from-start))
+
+-- ---- the needs
 
 distance-requires : tie.Need-distance-requires
 distance-requires c κs =
-    let s = c .before .before in
-    let fs : SFits w64 (s .args .start .0) = record { sfits = c .before .struct-told .given .0 .1 } in
-    let ft : SFits w64 (s .args .second .0) = record { sfits = c .struct-told2 .given .0 .1 } in
-    let f = found (s .args .body) (s .args .start .0) (s .args .coefs .now) (s .args .second .0) _ _ (s .pre .0) (s .pre .1) refl refl in
-    rw (toZ-ofZ fs, toZ-ofZ ft) (s .pre .1 .from-start, omega (arith, f .near))
+    let start = c .before .before in
+    let s = series (start .args .body) (start .args .start .0) (start .args .coefs .now) in
+    rw (at-start c, at-second c) (start .pre .1 .from-start, omega (arith, distance-in-span s (start .pre .0) (start .pre .1), span-short s (start .pre .0)))
 
 segment-after-requires : tie.Need-segment-after-requires
 segment-after-requires c κs = search needs
 
-mul-first : tie.Need-mul-first
-mul-first c =
-    let s = c .before .before .before .before in
-    let fs : SFits w64 (s .args .start .0) = record { sfits = c .before .before .before .struct-told .given .0 .1 } in
-    let ft : SFits w64 (s .args .second .0) = record { sfits = c .before .before .struct-told2 .given .0 .1 } in
-    let is-distance : c .before .distance .result ≡ distanceFrom (s .args .start .0) (s .args .second .0) = rw (toZ-ofZ fs, toZ-ofZ ft) at (c .before .distance .ensures) in
-    let f = found (s .args .body) (s .args .start .0) (s .args .coefs .now) (s .args .second .0) (c .before .distance .result) (c .segment-after .result) (s .pre .0) (s .pre .1) is-distance (c .segment-after .ensures) in
-    record { fits = omega (arith, f .inside) }
-
-add-end : tie.Need-add-end
-add-end c =
-    let s = c .before .before .before .before in
-    let fs : SFits w64 (s .args .start .0) = record { sfits = c .before .before .before .struct-told .given .0 .1 } in
-    let ft : SFits w64 (s .args .second .0) = record { sfits = c .before .before .struct-told2 .given .0 .1 } in
-    let is-distance : c .before .distance .result ≡ distanceFrom (s .args .start .0) (s .args .second .0) = rw (toZ-ofZ fs, toZ-ofZ ft) at (c .before .distance .ensures) in
-    let f = found (s .args .body) (s .args .start .0) (s .args .coefs .now) (s .args .second .0) (c .before .distance .result) (c .segment-after .result) (s .pre .0) (s .pre .1) is-distance (c .segment-after .ensures) in
-    record { fits = omega (arith, f .inside) }
+segment-of-requires : tie.Need-segment-of-requires
+segment-of-requires c κs =
+    let start = c .before .before .before .before in
+    rw (at-segment c) (segment-in-span (series (start .args .body) (start .args .start .0) (start .args .coefs .now)) (start .pre .0) (start .pre .1))
 
 place-after-requires : tie.Need-place-after-requires
 place-after-requires c κs = search needs
 
-mul-value : tie.Need-mul-value
-mul-value c =
-    let s = c .before .before .before .before .before in
-    let fs : SFits w64 (s .args .start .0) = record { sfits = c .before .before .before .before .struct-told .given .0 .1 } in
-    let ft : SFits w64 (s .args .second .0) = record { sfits = c .before .before .before .struct-told2 .given .0 .1 } in
-    let is-distance : c .before .before .distance .result ≡ distanceFrom (s .args .start .0) (s .args .second .0) = rw (toZ-ofZ fs, toZ-ofZ ft) at (c .before .before .distance .ensures) in
-    let f = found (s .args .body) (s .args .start .0) (s .args .coefs .now) (s .args .second .0) (c .before .before .distance .result) (c .before .segment-after .result) (s .pre .0) (s .pre .1) is-distance (c .before .segment-after .ensures) in
-    record { fits = omega (arith, f .inside) }
-
-sub-value : tie.Need-sub-value
-sub-value c = search needs
-
-part-value-start : tie.Need-part-value-start
-part-value-start c = search needs
-
-part-value-end : tie.Need-part-value-end
-part-value-end c =
-    let s = c .before .before .before .before .before in
-    let fs : SFits w64 (s .args .start .0) = record { sfits = c .before .before .before .before .struct-told .given .0 .1 } in
-    let ft : SFits w64 (s .args .second .0) = record { sfits = c .before .before .before .struct-told2 .given .0 .1 } in
-    let is-distance : c .before .before .distance .result ≡ distanceFrom (s .args .start .0) (s .args .second .0) = rw (toZ-ofZ fs, toZ-ofZ ft) at (c .before .before .distance .ensures) in
-    let f = found (s .args .body) (s .args .start .0) (s .args .coefs .now) (s .args .second .0) (c .before .before .distance .result) (c .before .segment-after .result) (s .pre .0) (s .pre .1) is-distance (c .before .segment-after .ensures) in
-    omega (arith, f .inside)
-
 value-requires : tie.Need-value-requires
 value-requires c κs =
-    let s = c .before .before .before .before .before .before in
-    let fs : SFits w64 (s .args .start .0) = record { sfits = c .before .before .before .before .before .struct-told .given .0 .1 } in
-    let ft : SFits w64 (s .args .second .0) = record { sfits = c .before .before .before .before .struct-told2 .given .0 .1 } in
-    let is-distance : c .before .before .before .distance .result ≡ distanceFrom (s .args .start .0) (s .args .second .0) = rw (toZ-ofZ fs, toZ-ofZ ft) at (c .before .before .before .distance .ensures) in
-    let f = found (s .args .body) (s .args .start .0) (s .args .coefs .now) (s .args .second .0) (c .before .before .before .distance .result) (c .before .before .segment-after .result) (s .pre .0) (s .pre .1) is-distance (c .before .before .segment-after .ensures) in
-    let fp : SFits w64 (c .before .place-after .result) = search needs in
-    let at : c .before .place-after .result ≡ placeAfter (s .args .body) (c .before .before .before .distance .result) = c .before .place-after .ensures in
-    rw (part-is-segment (s .args .coefs .now) (c .before .before .segment-after .result), toZ-ofZ fp, at) (f .fourteen, (f .in-range, place-within (s .args .body) (c .before .before .before .distance .result)))
+    let part = c .before in
+    let start = part .before .before .before .before .before in
+    let s = series (start .args .body) (start .args .start .0) (start .args .coefs .now) in
+    let k-in = segment-in-span s (start .pre .0) (start .pre .1) in
+    rw (part .segment-of .ensures, at-segment (part .before), at-place c)
+    (segment-length (start .args .coefs .now) _ k-in, (facts s (start .pre .0) .ranged .in-range _ k-in, place-in-span s (start .pre .0) (start .pre .1)))
 
 returns : tie.Need-returns
+unfolding valueAt
 returns c =
-    let s = c .before .before .before .before .before .before .before in
-    let fs : SFits w64 (s .args .start .0) = record { sfits = c .before .before .before .before .before .before .struct-told .given .0 .1 } in
-    let ft : SFits w64 (s .args .second .0) = record { sfits = c .before .before .before .before .before .struct-told2 .given .0 .1 } in
-    let is-distance : c .before .before .before .before .distance .result ≡ distanceFrom (s .args .start .0) (s .args .second .0) = rw (toZ-ofZ fs, toZ-ofZ ft) at (c .before .before .before .before .distance .ensures) in
-    let fp : SFits w64 (c .before .before .place-after .result) = search needs in
-    let fr : SFits w64 (c .value .result) = search needs in
-    toZ-ofZ fr
-    ∙ (rw (part-is-segment (s .args .coefs .now) (c .before .before .before .segment-after .result), toZ-ofZ fp) at (c .value .ensures))
-    ∙ there (s .args .body) (s .args .start .0) (s .args .coefs .now) (s .args .second .0) is-distance (c .before .before .before .segment-after .ensures) (c .before .before .place-after .ensures)
+    let part = c .before .before in
+    back (c .value .result) (c .value .ok) ∙ (rw (part .segment-of .ensures, at-segment (part .before), at-place (c .before)) at (c .value .ensures))
 
 pub value-spec : {M : Type 1} → statement M
 value-spec =
@@ -127,12 +103,7 @@ value-spec =
     (tie.spec
     distance-requires
     segment-after-requires
-    mul-first
-    add-end
+    segment-of-requires
     place-after-requires
-    mul-value
-    sub-value
-    part-value-start
-    part-value-end
     value-requires
     returns)

@@ -1,55 +1,78 @@
--- `series::judging::shape` meets its contract. Assumes nothing.
-use Prim.Native.Nat.{ℕ, _<_, _≤_}
+-- `series::judging::shape` meets its contract: each test that is passed goes on to the next. Assumes nothing.
+use Prim.Native.Nat.{ℕ, _%_, _*_, _<_, _≤_}
 use borrow.Author.Needs.{needs}
 use borrow.Author.Tests.{eq-eqb, ne-eqb, lt-ltb, le-ltb}
 use lib.Dec.{eqb, ltb}
+use lib.IntN.{ℤ, pos, negℤ}
+use lib.Signed.{ltZ}
 use mathlib.Core.Bool.{true, false, not}
-use mathlib.Core.Path.{_≡_, _∙_}
-use mir.Facts.{toZ-ofZ}
+use mathlib.Core.Path.{_≡_, ap, _∙_}
+use mir.Syntax.{w64}
+use mir.Val.{ofZ, toZ}
+use Rattle.whole.specs.Ranges.{back}
 use Rattle.refusals.specs.Verdict.{test-refuses, test-passes}
+use Rattle.series.specs.Bodies.{numbers}
 use Rattle.series.proofs.judging.shape.Statement.{statement}
 use Rattle.series.proofs.judging.shape.Tie as tie
+use Rattle.series.proofs.judging.shape.Reads as reads
+use Rattle.series.proofs.judging.shape.Lts as lts
+use Rattle.series.proofs.judging.most.Reads as most-reads
 
-broken : {rest : ℕ} → (rest ≡ 0 → ⊥) → not (eqb rest 0) ≡ true
-broken {rest} h = rw (ne-eqb rest 0 h)
+abbrev called : lts.Claims
+called = (most-reads.Asked, most-reads.Learnt)
 
-whole : {rest : ℕ} → rest ≡ 0 → not (eqb rest 0) ≡ false
-whole {rest} h = rw (eq-eqb rest 0 h)
+-- ---- the tests that are passed
 
-many : {m most count : ℕ} → m < count → m ≡ most → ltb most count ≡ true
-many {m} {most} {count} h e = rw e at (lt-ltb m count h)
+at-from : (c : lts.After-struct-told called reads.Pre reads.Post) → toZ w64 (ofZ w64 (c .before .args .start .0)) ≡ c .before .args .start .0
+at-from c = back (c .before .args .start .0) (c .struct-told .given .0 .1)
 
-few : {m most count : ℕ} → count ≤ m → m ≡ most → ltb most count ≡ false
-few {m} {most} {count} h e = rw e at (le-ltb m count h)
+at-whole : (c : lts.Else1 called reads.Pre reads.Post) → not (eqb (c .before .before .args .count % 14) 0) ≡ false
+at-whole c = ap not (eq-eqb _ _ (c .if1 .left))
+
+at-some : (c : lts.Else2 called reads.Pre reads.Post) → eqb (c .before .before .before .args .count) 0 ≡ false
+at-some c = ne-eqb _ _ (c .if2 .left)
+
+at-few : (c : lts.Else3 called reads.Pre reads.Post) → (let start = c .before .before .before .before .before in ltb (14 * numbers (start .args .body) .mostSegments) (start .args .count) ≡ false)
+at-few c = rw (c .before .most .ensures) at (le-ltb _ _ (c .if3 .left))
+
+at-not-early : (c : lts.Else4 called reads.Pre reads.Post) → ltZ (c .before .before .before .before .before .before .args .start .0) (negℤ (pos 10000000000)) ≡ false
+at-not-early c = rw (at-from (c .before .before .before .before .before)) at (c .if4 .left)
+
+-- ---- the needs
 
 returns : tie.Need-returns
-returns c = test-refuses 2 _ (broken (c .if1 .taken))
+returns c = test-refuses 2 _ (ap not (ne-eqb _ _ (c .if1 .taken)))
 
 returns-2 : tie.Need-returns-2
-returns-2 c = test-refuses 2 _ (eq-eqb _ _ (c .if2 .taken)) ∙ test-passes 2 _ (whole (c .before .if1 .left))
+returns-2 c = test-refuses 2 _ (eq-eqb _ _ (c .if2 .taken)) ∙ test-passes 2 _ (at-whole (c .before))
 
 most-requires : tie.Need-most-requires
 most-requires c κs = search needs
 
 returns-3 : tie.Need-returns-3
-returns-3 c = test-refuses 2 _ (many (c .if3 .taken) (c .before .most .ensures)) ∙ test-passes 2 _ (ne-eqb _ _ (c .before .before .if2 .left)) ∙ test-passes 2 _ (whole (c .before .before .before .if1 .left))
+returns-3 c =
+    let some = c .before .before in
+    test-refuses 2 _ (rw (c .before .most .ensures) at (lt-ltb _ _ (c .if3 .taken))) ∙ test-passes 2 _ (at-some some) ∙ test-passes 2 _ (at-whole (some .before))
 
 returns-4 : tie.Need-returns-4
 returns-4 c =
-    let fs = c .before .before .before .before .before .fits .start in
-    test-refuses 2 _ (simp toZ-ofZ at (c .if4 .taken)) ∙ test-passes 2 _ (few (c .before .if3 .left) (c .before .before .most .ensures)) ∙ test-passes 2 _ (ne-eqb _ _ (c .before .before .before .if2 .left)) ∙ test-passes 2 _ (whole (c .before .before .before .before .if1 .left))
+    let few = c .before in
+    let some = few .before .before in
+    test-refuses 2 _ (rw (at-from (some .before .before)) at (c .if4 .taken)) ∙ test-passes 2 _ (at-few few) ∙ test-passes 2 _ (at-some some) ∙ test-passes 2 _ (at-whole (some .before))
 
 returns-5 : tie.Need-returns-5
 returns-5 c =
-    let fs = c .before .before .before .before .before .before .fits .start in
-    let late = simp toZ-ofZ at (c .if5 .taken) in
-    rw late (test-passes 2 _ (simp toZ-ofZ at (c .before .if4 .left)) ∙ test-passes 2 _ (few (c .before .before .if3 .left) (c .before .before .before .most .ensures)) ∙ test-passes 2 _ (ne-eqb _ _ (c .before .before .before .before .if2 .left)) ∙ test-passes 2 _ (whole (c .before .before .before .before .before .if1 .left)))
+    let few = c .before .before in
+    let some = few .before .before in
+    let late = rw (at-from (some .before .before)) at (c .if5 .taken) in
+    rw late (test-passes 2 _ (at-not-early (c .before)) ∙ test-passes 2 _ (at-few few) ∙ test-passes 2 _ (at-some some) ∙ test-passes 2 _ (at-whole (some .before)))
 
 returns-6 : tie.Need-returns-6
 returns-6 c =
-    let fs = c .before .before .before .before .before .before .fits .start in
-    let not-late = simp toZ-ofZ at (c .if5 .left) in
-    rw not-late (test-passes 2 _ (simp toZ-ofZ at (c .before .if4 .left)) ∙ test-passes 2 _ (few (c .before .before .if3 .left) (c .before .before .before .most .ensures)) ∙ test-passes 2 _ (ne-eqb _ _ (c .before .before .before .before .if2 .left)) ∙ test-passes 2 _ (whole (c .before .before .before .before .before .if1 .left)))
+    let few = c .before .before in
+    let some = few .before .before in
+    let not-late = rw (at-from (some .before .before)) at (c .if5 .left) in
+    rw not-late (test-passes 2 _ (at-not-early (c .before)) ∙ test-passes 2 _ (at-few few) ∙ test-passes 2 _ (at-some some) ∙ test-passes 2 _ (at-whole (some .before)))
 
 pub shape-spec : {M : Type 1} → statement M
 shape-spec =

@@ -3,11 +3,10 @@ use Prim.Native.Nat.{ℕ, _*_}
 use borrow.Author.Needs.{needs}
 use lib.IntN.{pos}
 use mathlib.Core.Path.{_≡_, ap, _∙_}
-use mir.Facts.{toZ-ofZ}
-use mir.Syntax.{w64}
-use mir.Val.{SFits}
 use native.Mathlib.Omega.{arith}
-use Rattle.series.specs.Bodies.{numbers, lawful}
+use Rattle.whole.specs.Ranges.{back}
+use Rattle.series.specs.Bodies.{numbers, body-laws}
+use Rattle.series.specs.theory.Known.{segment-length}
 use Rattle.series.proofs.judging.too_slow.Statement.{statement}
 use Rattle.series.proofs.judging.too_slow.Tie as tie
 
@@ -15,21 +14,34 @@ half-length-requires : tie.Need-half-length-requires
 half-length-requires c κs = search needs
 
 mul-signed : tie.Need-mul-signed
-mul-signed c = record { fits = omega (arith, c .half-length .ensures, lawful (c .before .args .body) .short) }
+mul-signed c = record { fits = omega (arith, c .half-length .ensures, body-laws (c .before .args .body) .short) }
 
 signed-requires : tie.Need-signed-requires
-signed-requires c κs = omega (arith, c .half-length .ensures, lawful (c .before .args .body) .short)
+signed-requires c κs = omega (arith, c .half-length .ensures, body-laws (c .before .args .body) .short)
 
-slope-of-requires : tie.Need-slope-of-requires
-slope-of-requires c κs = search needs
+segment-of-requires : tie.Need-segment-of-requires
+segment-of-requires c κs = search needs
+
+slope-requires : tie.Need-slope-requires
+slope-requires c κs =
+    let start = c .before .before .before in
+    rw (c .segment-of .ensures) (segment-length (start .args .coefs .now) (start .args .k) (start .pre .1), start .pre .0 .in-range (start .args .k) (start .pre .1))
 
 returns : tie.Need-returns
 returns c =
-    let fs : SFits w64 (c .slope-of .result) = search needs in
-    let fl : SFits w64 (c .before .signed .result) = search needs in
-    let least : c .before .signed .result ≡ pos (100 * numbers (c .before .before .before .args .body) .halfLength) = c .before .signed .ensures ∙ ap (λ (n : ℕ). pos (100 * n)) (c .before .before .half-length .ensures) in
-    rw (toZ-ofZ fs, toZ-ofZ fl, c .slope-of .ensures, least)
+    let part = c .before in
+    let signed = part .before in
+    let start = signed .before .before in
+    let least : signed .signed .result ≡ pos (100 * numbers (start .args .body) .halfLength) = signed .signed .ensures ∙ ap (λ (n : ℕ). pos (100 * n)) (signed .before .half-length .ensures) in
+    rw (back (c .slope .result) (c .slope .ok), back (signed .signed .result) (signed .signed .ok), c .slope .ensures, part .segment-of .ensures, least)
 
 pub too-slow-spec : {M : Type 1} → statement M
 too-slow-spec =
-    tie.close (tie.spec half-length-requires mul-signed signed-requires slope-of-requires returns)
+    tie.close
+    (tie.spec
+    half-length-requires
+    mul-signed
+    signed-requires
+    segment-of-requires
+    slope-requires
+    returns)

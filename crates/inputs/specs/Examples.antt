@@ -1,0 +1,45 @@
+-- The order in which inputs are judged: leap table before Sun before Moon before 7, computed on inputs that break several rules at once. Assumes nothing.
+use mathlib.Core.Bool.{Bool}
+use mathlib.Core.List.{List, [], _∷_, _++_}
+use Prim.Native.Nat.{ℕ}
+use lib.Dec.{T}
+use lib.IntN.{ℤ, pos, negsuc}
+use lib.ListN.{replicate}
+use Rattle.whole.specs.Floor.{floorDiv}
+use Rattle.whole.specs.Below.{every}
+use Rattle.whole.specs.Evaluated.{all}
+use Rattle.refusals.specs.Search.{firstBad}
+use Rattle.refusals.specs.Evaluated.{isRefused, isRefusedAt}
+use Rattle.clock.specs.Leap.{leapLawful, wholePairs, firstEntry, nextEntry, goodEntry}
+use Rattle.clock.specs.Answers.{leapJudged}
+use Rattle.chebyshev.specs.Polynomials.{P}
+use Rattle.chebyshev.specs.Segment.{sum, value, slope}
+use Rattle.series.specs.Acceptance.{seriesJudged}
+use Rattle.inputs.specs.Inputs.{Inputs, inputs, inputsJudged}
+
+-- a segment with c1 alone
+abbrev one : ℤ → List ℤ
+one c1 = pos 0 ∷ c1 ∷ replicate 12 (pos 0)
+
+-- a table that begins in 2273, after every mark of a series that starts at 0: all are early
+abbrev late : List ℤ
+late = pos 100000 ∷ pos 32 ∷ []
+
+abbrev bad : List ℤ
+bad = pos 0 ∷ pos 1001 ∷ []
+
+unfoldable pub examples : List Bool
+unfolding inputsJudged leapJudged leapLawful wholePairs firstEntry nextEntry goodEntry every seriesJudged firstBad value slope sum P floorDiv
+examples =
+    -- a bad table, a bad coefficient of the Sun, no segment of the Moon
+    isRefused (inputsJudged (inputs bad (pos 0) (one (pos 4000000001)) (pos 0) [])) 1
+    -- the Sun's 3 before the Moon's 2; the Sun's 4 before the Moon's 3
+    ∷ isRefusedAt (inputsJudged (inputs late (pos 0) (one (pos 4000000001)) (pos 0) [])) 3 0
+    ∷ isRefusedAt (inputsJudged (inputs late (pos 0) (one (pos 138239999)) (pos 0) (one (pos 4000000001)))) 4 0
+    -- the Moon's 4 before 7
+    ∷ isRefusedAt (inputsJudged (inputs late (pos 0) (one (pos 552960000)) (pos 0) (one (pos 17279999)))) 4 0
+    ∷ []
+
+pub examples-hold : T (all examples)
+unfolding examples
+examples-hold = tt

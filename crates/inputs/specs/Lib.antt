@@ -1,0 +1,5 @@
+pub mod Inputs
+pub mod Known
+pub mod theory
+pub mod Theorems
+pub mod Examples

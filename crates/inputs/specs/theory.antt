@@ -1,0 +1,3 @@
+pub mod Early
+pub mod Converted
+pub mod First

@@ -1,0 +1,54 @@
+// Leap table, Sun and Moon, judged together: what every build begins with.
+use refusals::Check;
+use series::Body;
+use times::Second;
+ghost use mathlib.Core.Path.{_≡_};
+ghost use mathlib.Core.Bool.{true};
+ghost use Rattle.refusals.specs.Verdict.{paperCheck};
+ghost use Rattle.clock.specs.Leap.{leapLawful};
+ghost use Rattle.series.specs.Series.{series};
+ghost use Rattle.series.specs.Acceptance.{Accepted};
+ghost use Rattle.marks.specs.Listed.{listedMarks};
+ghost use Rattle.inputs.specs.Inputs.{inputs, anyEarly, inputsJudged};
+
+pub mod inner;
+
+// Whether any listed mark lies before the first leap entry. Marks rise in time, so the first one tells.
+fn any_early(leap: &[i64], body: Body, start: Second, coefs: &[i64]) -> bool
+    requires { ⌜ leapLawful (now leap) ≡ true ⌝ }
+    requires { ⌜ Accepted (series body (start .0) (now coefs)) ⌝ }
+    ensures { λ r. ⌜ r ≡ anyEarly (now (leap .entry)) (listedMarks (series body (start .0) (now (coefs .entry)))) ⌝ }
+{
+    if marks::inner::count(body, start, coefs) == 0 {
+        return false;
+    }
+    let first = marks::inner::nth_mark(body, start, coefs, 0);
+    let second = first.second;
+    clock::inner::early(leap, second)
+}
+
+// Judges everything that a build is handed: the leap table (1), the whole Sun series and the whole Moon series (2 to 5), and that no listed mark lies before the
+// first leap entry (7).
+pub fn judge(leap: &[i64], sunstart: Second, sun: &[i64], moonstart: Second, moon: &[i64]) -> Check
+    ensures { λ r. ⌜ paperCheck r ≡ inputsJudged (inputs (now (leap .entry)) (sunstart .0) (now (sun .entry)) (moonstart .0) (now (moon .entry))) ⌝ }
+{
+    let leap_check = clock::judge_leap_table(leap);
+    if let Check::Refused(r) = leap_check {
+        return Check::Refused(r);
+    }
+    let sun_check = series::accept(Body::Sun, sunstart, sun);
+    if let Check::Refused(r) = sun_check {
+        return Check::Refused(r);
+    }
+    let moon_check = series::accept(Body::Moon, moonstart, moon);
+    if let Check::Refused(r) = moon_check {
+        return Check::Refused(r);
+    }
+    if any_early(leap, Body::Sun, sunstart, sun) {
+        return Check::Refused(refusals::TOO_EARLY);
+    }
+    if any_early(leap, Body::Moon, moonstart, moon) {
+        return Check::Refused(refusals::TOO_EARLY);
+    }
+    Check::Accepted
+}

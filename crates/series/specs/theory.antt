@@ -1,0 +1,4 @@
+pub mod Known
+pub mod Place
+pub mod Span
+pub mod Steps

@@ -1,0 +1,141 @@
+-- Acceptance, taken apart: each refusal that was not given, as a fact, and back again. Assumes nothing.
+use mathlib.Core.Path.{_≡_, refl, ap, _∙_, subst}
+use mathlib.Core.Bool.{Bool, true, false, not}
+use mathlib.Core.List.{List, [], _∷_}
+use Prim.Native.Nat.{ℕ, zero, suc, _+_, _*_, _-_, _/_, _%_, _<_, _≤_}
+use native.Mathlib.Omega.{arith}
+use native.Mathlib.Nat.{div-add-mod', mod-lt}
+use native.Mathlib.Decide.{decLt}
+use borrow.Author.Tests.{ltb-false, eqb-true, eqb-false, not-false, eq-eqb, ne-eqb, le-ltb}
+use lib.Dec.{eqb}
+use lib.IntN.{ℤ, pos, negℤ, natAbs}
+use lib.Signed.{_≤ℤ_, ltZ}
+use lib.ListN.{length, getD, take, drop, length-drop}
+use lib.Seq.{getD-take, getD-drop, length-take-le}
+use Rattle.whole.specs.Ranges.{Within}
+use Rattle.whole.specs.Booleans.{neither, none-of}
+use Rattle.whole.specs.Solver.{lt-no, no-lt}
+use Rattle.refusals.specs.Verdict.{accepted, before-accepted, both-accepted, refuseWhen-accepted, accepted-when}
+use Rattle.refusals.specs.Search.{firstBad, firstBad-none, none-firstBad, perSegment, perSegment-accepted}
+use Rattle.chebyshev.specs.Segment.{InRange, coefficient}
+use Rattle.series.specs.Bodies.{numbers}
+use Rattle.series.specs.Series.{Series, segment, segments}
+use Rattle.series.specs.Acceptance.{seriesJudged, judgedShape, Accepted, limit, outOfRange, slow, rise, badJoint}
+use Rattle.series.specs.Facts.{Ranged, Facts}
+
+-- ---- a segment's coefficients are the list's
+coefficient-is : (coefs : List ℤ) (k n : ℕ) → n < 14 → coefficient (segment coefs k) n ≡ getD coefs (14 * k + n) (pos 0)
+coefficient-is coefs k n h = rw (getD-take, getD-drop)
+
+-- a list that ends before an index has nothing there
+past-end : (l : List ℤ) (n : ℕ) → length l ≤ n → getD l n (pos 0) ≡ pos 0
+past-end [] n h = refl
+past-end (x ∷ l) zero h = absurd (omega arith)
+past-end (x ∷ l) (suc n) h = past-end l n (omega arith)
+
+pub segment-length : (coefs : List ℤ) (k : ℕ) → k < segments coefs → length (segment coefs k) ≡ 14
+segment-length coefs k h = length-take-le 14 (drop (14 * k) coefs) (rw length-drop (omega (arith, div-add-mod' (length coefs) 14)))
+
+-- the part of the lent coefficients from 14k on is the segment
+pub part-is-segment : (coefs : List ℤ) (k : ℕ) → take (14 * k + 14 - 14 * k) (drop (14 * k) coefs) ≡ segment coefs k
+part-is-segment coefs k = let fourteen : 14 * k + 14 - 14 * k ≡ 14 = omega arith in rw fourteen
+
+-- ---- 3
+place-of : (k n : ℕ) → n < 14 → (14 * k + n) % 14 ≡ n
+place-of k n h = omega (arith, div-add-mod' (14 * k + n) 14, mod-lt (14 * k + n) {m = 14} (omega arith))
+
+module _ (coefs : List ℤ) (w : length coefs ≡ 14 * segments coefs) (none : (i : ℕ) → i < length coefs → outOfRange coefs i ≡ false) where
+  bounded : (k n : ℕ) → k < segments coefs → n < 14 → natAbs (coefficient (segment coefs k) n) ≤ limit n
+  bounded k n h l = rw (coefficient-is coefs k n l) (subst (λ (m : ℕ). natAbs (getD coefs (14 * k + n) (pos 0)) ≤ limit m) (place-of k n l) (ltb-false _ _ (none (14 * k + n) (omega arith))))
+
+  in-range : (k : ℕ) → k < segments coefs → InRange (segment coefs k)
+  in-range k h = record { constant = record { within = bounded k 0 h (omega arith) }; others = others }
+    where
+      others : (n : ℕ) → 1 ≤ n → Within 4000000000 (coefficient (segment coefs k) n)
+      others zero l = absurd (omega arith)
+      others (suc n) l = go (decLt (suc n) 14)
+        where
+          go : Dec (suc n < 14) → Within 4000000000 (coefficient (segment coefs k) (suc n))
+          go (yes m) = record { within = bounded k (suc n) h m }
+          go (no m) = record { within = rw (past-end (segment coefs k) (suc n) (omega (arith, segment-length coefs k h))) (omega arith) }
+
+  ranged : Ranged coefs
+  ranged = record { whole-segments = w; in-range = in-range }
+
+-- and back
+module _ (coefs : List ℤ) (r : Ranged coefs) where
+  within-limit : (k n : ℕ) → k < segments coefs → natAbs (coefficient (segment coefs k) n) ≤ limit n
+  within-limit k zero h = r .in-range k h .constant .within
+  within-limit k (suc n) h = r .in-range k h .others (suc n) (omega arith) .within
+
+  in-limit : (i : ℕ) → i < length coefs → outOfRange coefs i ≡ false
+  in-limit i h =
+      let rest : i % 14 < 14 = mod-lt i {m = 14} (omega arith) in
+      let whole : 14 * (i / 14) + i % 14 ≡ i = omega (arith, div-add-mod' i 14) in
+      let there : coefficient (segment coefs (i / 14)) (i % 14) ≡ getD coefs i (pos 0) = coefficient-is coefs (i / 14) (i % 14) rest ∙ ap (λ (m : ℕ). getD coefs m (pos 0)) whole in
+      le-ltb _ _ (rw there at (within-limit (i / 14) (i % 14) (omega (arith, div-add-mod' i 14, r .whole-segments))))
+
+-- ---- all of them
+module _ (s : Series) where
+  abbrev count : ℕ
+  count = length (s .coefs)
+
+  pub shape-known : judgedShape (s .body) (s .start) count ≡ accepted → (count ≡ 14 * segments (s .coefs)) × ((1 ≤ segments (s .coefs)) × ((segments (s .coefs) ≤ numbers (s .body) .mostSegments) × ((negℤ (pos 10000000000) ≤ℤ (s .start)) × ((s .start) ≤ℤ pos 10000000000))))
+  shape-known e =
+      let a = before-accepted _ _ e in
+      let b = before-accepted _ _ (a .1) in
+      let d = before-accepted _ _ (b .1) in
+      let f = before-accepted _ _ (d .1) in
+      let whole : count % 14 ≡ 0 = eqb-true _ _ (not-false _ (refuseWhen-accepted _ _ (a .0))) in
+      let some : count ≡ 0 → ⊥ = eqb-false _ _ (refuseWhen-accepted _ _ (b .0)) in
+      let few : count ≤ 14 * numbers (s .body) .mostSegments = ltb-false _ _ (refuseWhen-accepted _ _ (d .0)) in
+      (omega (arith, div-add-mod' count 14), (go (count / 14) refl some whole, (omega (arith, div-add-mod' count 14), (lt-no (refuseWhen-accepted _ _ (f .0)), lt-no (refuseWhen-accepted _ _ (f .1))))))
+    where
+      go : (n : ℕ) → count / 14 ≡ n → (count ≡ 0 → ⊥) → count % 14 ≡ 0 → 1 ≤ count / 14
+      go zero p q r = absurd (q (omega (arith, div-add-mod' count 14)))
+      go (suc n) p q r = omega arith
+
+  pub ranged-known : judgedShape (s .body) (s .start) count ≡ accepted → perSegment (firstBad 3 (outOfRange (s .coefs)) 0 count) ≡ accepted → Ranged (s .coefs)
+  ranged-known e f = ranged (s .coefs) (shape-known e .0) (λ i h. firstBad-none 3 (outOfRange (s .coefs)) 0 count (perSegment-accepted _ f) i (omega arith) (omega arith))
+
+  pub facts : Accepted s → Facts s
+  unfolding seriesJudged
+  facts e =
+      let a = before-accepted _ _ e in
+      let b = before-accepted _ _ (a .1) in
+      let d = before-accepted _ _ (b .1) in
+      let shape = shape-known (a .0) in
+      let joint : (k : ℕ) → 1 ≤ k → k < segments (s .coefs) → badJoint (s .body) (s .coefs) k ≡ false = λ k l h. firstBad-none 5 (badJoint (s .body) (s .coefs)) 1 (segments (s .coefs) - 1) (d .1) k l (omega arith) in
+      record {
+        ranged = ranged-known (a .0) (b .0);
+        some-segment = shape .1 .0;
+        not-too-many = shape .1 .1 .0;
+        not-too-early = shape .1 .1 .1 .0;
+        not-too-late = shape .1 .1 .1 .1;
+        fast = λ k h. lt-no (firstBad-none 4 (slow (s .body) (s .coefs)) 0 (segments (s .coefs)) (d .0) k (omega arith) (omega arith));
+        joined-least = λ k l h. lt-no (neither (ltZ (rise (s .body) (s .coefs) k) (pos 200)) (ltZ (pos 100000) (rise (s .body) (s .coefs) k)) (joint k l h) .0);
+        joined-most = λ k l h. lt-no (neither (ltZ (rise (s .body) (s .coefs) k) (pos 200)) (ltZ (pos 100000) (rise (s .body) (s .coefs) k)) (joint k l h) .1);
+      }
+
+  -- and back
+  module _ (f : Facts s) where
+    shape-good : judgedShape (s .body) (s .start) count ≡ accepted
+    shape-good =
+        let w = f .ranged .whole-segments in
+        let some = f .some-segment in
+        let few = f .not-too-many in
+        let whole : count % 14 ≡ 0 = omega (arith, div-add-mod' count 14) in
+        let fits : count ≤ 14 * numbers (s .body) .mostSegments = omega arith in
+        both-accepted _ _ (accepted-when _ 2 (ap not (eq-eqb _ _ whole)))
+        (both-accepted _ _ (accepted-when _ 2 (ne-eqb _ _ (λ (e : count ≡ 0). omega arith)))
+        (both-accepted _ _ (accepted-when _ 2 (le-ltb _ _ fits))
+        (both-accepted _ _ (accepted-when _ 2 (no-lt (f .not-too-early))) (accepted-when _ 2 (no-lt (f .not-too-late))))))
+
+    pub facts-suffice : Accepted s
+    unfolding seriesJudged
+    facts-suffice =
+        both-accepted _ _ shape-good
+        (both-accepted _ _ (ap perSegment (none-firstBad 3 (outOfRange (s .coefs)) 0 count (λ i l h. in-limit (s .coefs) (f .ranged) i (omega arith))))
+        (both-accepted _ _ (none-firstBad 4 (slow (s .body) (s .coefs)) 0 (segments (s .coefs)) (λ k l h. no-lt (f .fast k (omega arith))))
+        (none-firstBad 5 (badJoint (s .body) (s .coefs)) 1 (segments (s .coefs) - 1)
+        (λ k l h. none-of _ _ (no-lt (f .joined-least k l (omega arith))) (no-lt (f .joined-most k l (omega arith)))))))
