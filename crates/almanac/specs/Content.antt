@@ -12,7 +12,7 @@ use Rattle.whole.specs.Below.{every}
 use Rattle.dates.specs.Answers.{hasDate}
 use Rattle.clock.specs.Leap.{leapLawful}
 use Rattle.months.specs.declared.Month.{Month}
-use Rattle.months.specs.Months.{ordinal, handle}
+use Rattle.months.specs.Handles.{ordinal, handle}
 
 -- leap entries: day and offset; suis: year and number of months; months: handle, first day and length
 pub record Content : Type 0 where
@@ -33,42 +33,38 @@ suiCount c = length (c .suis) / 2
 abbrev pub monthCount : Content → ℕ
 monthCount c = length (c .months) / 3
 
-abbrev pub yearAt : Content → ℕ → ℤ
-yearAt c i = getD (c .suis) (2 * i) (pos 0)
+-- of the words of suis: the year of sui i, and how many months it has
+abbrev pub yearAt : List ℤ → ℕ → ℤ
+yearAt suis i = getD suis (2 * i) (pos 0)
 
--- how many months sui i has
-abbrev pub monthsAt : Content → ℕ → ℤ
-monthsAt c i = getD (c .suis) (2 * i + 1) (pos 0)
+abbrev pub countAt : List ℤ → ℕ → ℤ
+countAt suis i = getD suis (2 * i + 1) (pos 0)
 
--- month k of the file
-abbrev pub monthAt : Content → ℕ → Month
-monthAt c k = record { handle = getD (c .months) (3 * k) (pos 0); first = getD (c .months) (3 * k + 1) (pos 0); length = getD (c .months) (3 * k + 2) (pos 0) }
+-- of the words of months: month k of the file
+abbrev pub monthAt : List ℤ → ℕ → Month
+monthAt months k = record { handle = getD months (3 * k) (pos 0); first = getD months (3 * k + 1) (pos 0); length = getD months (3 * k + 2) (pos 0) }
 
 -- how many months the suis before sui i have: the first month of sui i is that one
-unfoldable pub monthsBefore : Content → ℕ → ℕ
-monthsBefore c zero = 0
-monthsBefore c (suc i) = monthsBefore c i + natAbs (monthsAt c i)
-
--- the month at a place of sui i, counted from its first month, 0
-abbrev pub suiMonth : Content → ℕ → ℕ → Month
-suiMonth c i place = monthAt c (monthsBefore c i + place)
+unfoldable pub monthsBefore : List ℤ → ℕ → ℕ
+monthsBefore suis zero = 0
+monthsBefore suis (suc i) = monthsBefore suis i + natAbs (countAt suis i)
 
 -- ---- suis: years 1700 to 2500, rising by one; 12 or 13 months
-unfoldable pub goodYear : Content → ℕ → Bool
-goodYear c zero = inRange (pos 1700) (pos 2500) (yearAt c zero)
-goodYear c (suc i) = inRange (pos 1700) (pos 2500) (yearAt c (suc i)) && isExactly (yearAt c i +ℤ pos 1) (yearAt c (suc i))
+unfoldable pub goodYear : List ℤ → ℕ → Bool
+goodYear suis zero = inRange (pos 1700) (pos 2500) (yearAt suis zero)
+goodYear suis (suc i) = inRange (pos 1700) (pos 2500) (yearAt suis (suc i)) && isExactly (yearAt suis i +ℤ pos 1) (yearAt suis (suc i))
 
-unfoldable pub goodCount : Content → ℕ → Bool
-goodCount c i = isExactly (pos 12) (monthsAt c i) || isExactly (pos 13) (monthsAt c i)
+unfoldable pub goodCount : ℤ → Bool
+goodCount count = inRange (pos 12) (pos 13) count
 
-unfoldable pub goodSui : Content → ℕ → Bool
-goodSui c i = goodYear c i && goodCount c i
+unfoldable pub goodSui : List ℤ → ℕ → Bool
+goodSui suis i = goodYear suis i && goodCount (countAt suis i)
 
--- ---- handles: months number 11, 12, 1, .. 10; a leap month takes the number before it
--- how many leap months stand before a place of sui i: the handle of one is odd
-unfoldable pub leapsBefore : Content → ℕ → ℕ → ℕ
-leapsBefore c i zero = 0
-leapsBefore c i (suc place) = leapsBefore c i place + floorMod (suiMonth c i place .handle) 2
+-- ---- handles: months number 11, 12, 1, .. 10; a leap month takes the number before it. A sui's months stand from month `from` on
+-- how many leap months stand before a place: the handle of one is odd
+unfoldable pub leapsBefore : List ℤ → ℕ → ℕ → ℕ
+leapsBefore months from zero = 0
+leapsBefore months from (suc place) = leapsBefore months from place + floorMod (monthAt months (from + place) .handle) 2
 
 -- an ordinary month has the number after the last ordinary one's; a leap month, in a sui of 13 that has had none and never first, the number before it
 unfoldable pub goodHandle : ℤ → ℤ → ℕ → ℕ → ℤ → Bool
@@ -76,25 +72,26 @@ goodHandle year count leaps place h =
     isExactly (handle year (ordinal (place - leaps)) 0) h
     || (isExactly (pos 13) count && (eqb leaps 0 && (leb 1 place && isExactly (handle year (ordinal (place - 1)) 1) h)))
 
--- 12 months and no leap, or 13 and one leap
-unfoldable pub goodLeaps : Content → ℕ → Bool
-goodLeaps c i = isExactly (pos (12 + leapsBefore c i (natAbs (monthsAt c i)))) (monthsAt c i)
-
 -- ---- days: lengths 29 or 30, each month begins on the day after the one before it ends, and every day has a date
-unfoldable pub goodStart : Content → ℕ → Bool
-goodStart c zero = hasDate (monthAt c zero .first)
-goodStart c (suc k) = isExactly (monthAt c k .first +ℤ monthAt c k .length) (monthAt c (suc k) .first)
+unfoldable pub goodStart : List ℤ → ℕ → Bool
+goodStart months zero = hasDate (monthAt months zero .first)
+goodStart months (suc k) = isExactly (monthAt months k .first +ℤ monthAt months k .length) (monthAt months (suc k) .first)
 
-unfoldable pub goodDays : Content → ℕ → Bool
-goodDays c k = goodStart c k && (inRange (pos 29) (pos 30) (monthAt c k .length) && hasDate (monthAt c k .first +ℤ monthAt c k .length -ℤ pos 1))
+unfoldable pub goodDays : List ℤ → ℕ → Bool
+goodDays months k = goodStart months k && (inRange (pos 29) (pos 30) (monthAt months k .length) && hasDate (monthAt months k .first +ℤ monthAt months k .length -ℤ pos 1))
+
+-- ---- the months of a sui
+unfoldable pub goodMonth : List ℤ → ℤ → ℤ → ℕ → ℕ → Bool
+goodMonth months year count from place = goodHandle year count (leapsBefore months from place) place (monthAt months (from + place) .handle) && goodDays months (from + place)
+
+-- each of them good; and 12 months and no leap, or 13 and one leap
+unfoldable pub goodMonths : List ℤ → ℤ → ℤ → ℕ → Bool
+goodMonths months year count from = every (goodMonth months year count from) (natAbs count) && isExactly (pos (12 + leapsBefore months from (natAbs count))) count
+
+unfoldable pub goodSuiMonths : Content → ℕ → Bool
+goodSuiMonths c i = goodMonths (c .months) (yearAt (c .suis) i) (countAt (c .suis) i) (monthsBefore (c .suis) i)
 
 -- ---- all of it
-unfoldable pub goodMonth : Content → ℕ → ℕ → Bool
-goodMonth c i place = goodHandle (yearAt c i) (monthsAt c i) (leapsBefore c i place) place (suiMonth c i place .handle) && goodDays c (monthsBefore c i + place)
-
-unfoldable pub goodMonths : Content → ℕ → Bool
-goodMonths c i = every (goodMonth c i) (natAbs (monthsAt c i)) && goodLeaps c i
-
 -- 1 to 128 suis in whole records, by the number of words
 unfoldable pub wholeSuis : ℕ → Bool
 wholeSuis words = eqb (words % 2) 0 && (leb 2 words && leb words 256)
@@ -103,6 +100,6 @@ unfoldable pub lawful : Content → Bool
 lawful c =
     leapLawful (c .leap)
     && (wholeSuis (length (c .suis))
-    && (every (goodSui c) (suiCount c)
-    && (eqb (length (c .months)) (3 * monthsBefore c (suiCount c))
-    && every (goodMonths c) (suiCount c))))
+    && (every (goodSui (c .suis)) (suiCount c)
+    && (eqb (length (c .months)) (3 * monthsBefore (c .suis) (suiCount c))
+    && every (goodSuiMonths c) (suiCount c))))

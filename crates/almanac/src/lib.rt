@@ -1,4 +1,4 @@
-// The almanac file: checked, read and written (document 01, "Almanac file").
+// The almanac file (document 01, "Almanac file"). Its layout, its rules and their theorems are in `specs/`.
 
 // How many leap entries, suis and months a file has.
 pub struct Counts {

@@ -21,10 +21,10 @@ use Rattle.whole.specs.Tests.{inRange, isExactly, in-range-says, exactly-says}
 use Rattle.whole.specs.Below.{every, every-at}
 use Rattle.words.specs.Words.{half4}
 use Rattle.dates.specs.Answers.{hasDate}
-use Rattle.clock.specs.Leap.{leapLawful, entries, day, offset}
+use Rattle.clock.specs.Leap.{leapLawful, wholePairs, goodEntry, entries, day, offset}
 use Rattle.clock.specs.theory.Table.{few, day-small, offset-small, offset-is, offset-first}
-use Rattle.months.specs.Months.{ordinal, handle}
-use Rattle.almanac.specs.Content.{Content, entryCount, suiCount, monthCount, yearAt, monthsAt, monthAt, monthsBefore, suiMonth, goodYear, goodCount, goodSui, leapsBefore, goodHandle, goodLeaps, goodStart, goodDays, goodMonth, goodMonths, wholeSuis, lawful}
+use Rattle.months.specs.Handles.{ordinal, handle}
+use Rattle.almanac.specs.Content.{Content, entryCount, suiCount, monthCount, yearAt, countAt, monthAt, monthsBefore, goodYear, goodCount, goodSui, leapsBefore, goodHandle, goodStart, goodDays, goodMonth, goodMonths, goodSuiMonths, wholeSuis, lawful}
 use Rattle.almanac.specs.Fields.{Field, one-byte, unsigned, signed, times}
 use Rattle.almanac.specs.Layout.{entryFields, suiFields, monthFields}
 use Rattle.almanac.specs.theory.FieldLaws.{Counted, FitsField, Fit}
@@ -48,31 +48,32 @@ signed-in (negsuc n) l u = omega ℤ-rules
 pub record Rules (c : Content) : Type 0 where
   pub table : leapLawful (c .leap) ≡ true
   pub suis-whole : wholeSuis (length (c .suis)) ≡ true
-  pub sui : (i : ℕ) → i < suiCount c → goodSui c i ≡ true
-  pub months-whole : length (c .months) ≡ 3 * monthsBefore c (suiCount c)
-  pub months : (i : ℕ) → i < suiCount c → goodMonths c i ≡ true
+  pub sui : (i : ℕ) → i < suiCount c → goodSui (c .suis) i ≡ true
+  pub months-whole : length (c .months) ≡ 3 * monthsBefore (c .suis) (suiCount c)
+  pub months : (i : ℕ) → i < suiCount c → goodSuiMonths c i ≡ true
 
 pub rules : (c : Content) → lawful c ≡ true → Rules c
 unfolding lawful
 rules c e =
     let r₁ = both (leapLawful (c .leap)) _ e in
     let r₂ = both (wholeSuis (length (c .suis))) _ (r₁ .1) in
-    let r₃ = both (every (goodSui c) (suiCount c)) _ (r₂ .1) in
-    let r₄ = both (eqb (length (c .months)) (3 * monthsBefore c (suiCount c))) (every (goodMonths c) (suiCount c)) (r₃ .1) in
+    let r₃ = both (every (goodSui (c .suis)) (suiCount c)) _ (r₂ .1) in
+    let r₄ = both (eqb (length (c .months)) (3 * monthsBefore (c .suis) (suiCount c))) (every (goodSuiMonths c) (suiCount c)) (r₃ .1) in
     record {
       table = r₁ .0;
       suis-whole = r₂ .0;
-      sui = every-at (goodSui c) (suiCount c) (r₃ .0);
+      sui = every-at (goodSui (c .suis)) (suiCount c) (r₃ .0);
       months-whole = eqb-true _ _ (r₄ .0);
-      months = every-at (goodMonths c) (suiCount c) (r₄ .1);
+      months = every-at (goodSuiMonths c) (suiCount c) (r₄ .1);
     }
 
 -- ---- what they say of each record
 module _ (c : Content) (r : Rules c) where
   pub entries-whole : length (c .leap) ≡ 2 * entryCount c
-  unfolding leapLawful
+  unfolding leapLawful wholePairs
   entries-whole =
-      let even = both (eqb (length (c .leap) % 2) 0) _ (r .table) .0 in
+      let pairs = both (wholePairs (length (c .leap))) (every (goodEntry (c .leap)) (entries (c .leap))) (r .table) .0 in
+      let even = both (eqb (length (c .leap) % 2) 0) _ pairs .0 in
       omega (arith, eqb-true (length (c .leap) % 2) 0 even, div-add-mod' (length (c .leap)) 2)
 
   suis-parts : (length (c .suis) % 2 ≡ 0) × ((2 ≤ length (c .suis)) × (length (c .suis) ≤ 256))
@@ -91,92 +92,95 @@ module _ (c : Content) (r : Rules c) where
   pub few-suis : suiCount c ≤ 128
   few-suis = omega (arith, suis-parts .1 .1, div-add-mod' (length (c .suis)) 2)
 
-  pub months-counted : monthCount c ≡ monthsBefore c (suiCount c)
-  months-counted = ap (λ (n : ℕ). n / 3) (r .months-whole) ∙ mul-div-cancel-left (monthsBefore c (suiCount c)) (omega arith)
+  pub months-counted : monthCount c ≡ monthsBefore (c .suis) (suiCount c)
+  months-counted = ap (λ (n : ℕ). n / 3) (r .months-whole) ∙ mul-div-cancel-left (monthsBefore (c .suis) (suiCount c)) (omega arith)
 
   module _ (i : ℕ) (h : i < suiCount c) where
-    sui-parts : (goodYear c i ≡ true) × (goodCount c i ≡ true)
+    sui-parts : (goodYear (c .suis) i ≡ true) × (goodCount (countAt (c .suis) i) ≡ true)
     unfolding goodSui
-    sui-parts = both (goodYear c i) (goodCount c i) (r .sui i h)
+    sui-parts = both (goodYear (c .suis) i) (goodCount (countAt (c .suis) i)) (r .sui i h)
 
-    pub year-range : (pos 1700 ⩽ yearAt c i) × (yearAt c i ⩽ pos 2500)
+    pub year-range : (pos 1700 ⩽ yearAt (c .suis) i) × (yearAt (c .suis) i ⩽ pos 2500)
     unfolding goodYear
     year-range = go i (sui-parts .0)
       where
-        go : (i : ℕ) → goodYear c i ≡ true → (pos 1700 ⩽ yearAt c i) × (yearAt c i ⩽ pos 2500)
-        go zero e = in-range-says (pos 1700) (pos 2500) (yearAt c zero) e
-        go (suc i) e = in-range-says (pos 1700) (pos 2500) (yearAt c (suc i)) (both (inRange (pos 1700) (pos 2500) (yearAt c (suc i))) _ e .0)
+        go : (i : ℕ) → goodYear (c .suis) i ≡ true → (pos 1700 ⩽ yearAt (c .suis) i) × (yearAt (c .suis) i ⩽ pos 2500)
+        go zero e = in-range-says (pos 1700) (pos 2500) (yearAt (c .suis) zero) e
+        go (suc i) e = in-range-says (pos 1700) (pos 2500) (yearAt (c .suis) (suc i)) (both (inRange (pos 1700) (pos 2500) (yearAt (c .suis) (suc i))) _ e .0)
 
-    pub count-is : (monthsAt c i ≡ pos 12) ⊎ (monthsAt c i ≡ pos 13)
+    pub count-range : (pos 12 ⩽ countAt (c .suis) i) × (countAt (c .suis) i ⩽ pos 13)
     unfolding goodCount
-    count-is = ⊎-elim (λ (e : isExactly (pos 12) (monthsAt c i) ≡ true). inl (exactly-says (pos 12) (monthsAt c i) e)) (λ (e : isExactly (pos 13) (monthsAt c i) ≡ true). inr (exactly-says (pos 13) (monthsAt c i) e)) (one-of (isExactly (pos 12) (monthsAt c i)) (isExactly (pos 13) (monthsAt c i)) (sui-parts .1))
+    count-range = in-range-says (pos 12) (pos 13) (countAt (c .suis) i) (sui-parts .1)
 
-    months-parts : (every (goodMonth c i) (natAbs (monthsAt c i)) ≡ true) × (goodLeaps c i ≡ true)
-    unfolding goodMonths
-    months-parts = both (every (goodMonth c i) (natAbs (monthsAt c i))) (goodLeaps c i) (r .months i h)
+    pub count-small : natAbs (countAt (c .suis) i) ≤ 13
+    count-small = let ρ = countAt (c .suis) i ∷ [] in ⇑ ρ {A = natAbs (countAt (c .suis) i) ≤ 13} (search ring) (omega (arith, ⇓ ρ (count-range .0) (search ring), ⇓ ρ (count-range .1) (search ring)))
 
-    module _ (place : ℕ) (k : place < natAbs (monthsAt c i)) where
-      month-parts : (goodHandle (yearAt c i) (monthsAt c i) (leapsBefore c i place) place (suiMonth c i place .handle) ≡ true) × (goodDays c (monthsBefore c i + place) ≡ true)
+    months-parts : (every (goodMonth (c .months) (yearAt (c .suis) i) (countAt (c .suis) i) (monthsBefore (c .suis) i)) (natAbs (countAt (c .suis) i)) ≡ true) × (isExactly (pos (12 + leapsBefore (c .months) (monthsBefore (c .suis) i) (natAbs (countAt (c .suis) i)))) (countAt (c .suis) i) ≡ true)
+    unfolding goodSuiMonths goodMonths
+    months-parts = both (every (goodMonth (c .months) (yearAt (c .suis) i) (countAt (c .suis) i) (monthsBefore (c .suis) i)) (natAbs (countAt (c .suis) i))) _ (r .months i h)
+
+    module _ (place : ℕ) (k : place < natAbs (countAt (c .suis) i)) where
+      month-parts : (goodHandle (yearAt (c .suis) i) (countAt (c .suis) i) (leapsBefore (c .months) (monthsBefore (c .suis) i) place) place (monthAt (c .months) (monthsBefore (c .suis) i + place) .handle) ≡ true) × (goodDays (c .months) (monthsBefore (c .suis) i + place) ≡ true)
       unfolding goodMonth
-      month-parts = both _ _ (every-at (goodMonth c i) (natAbs (monthsAt c i)) (months-parts .0) place k)
+      month-parts = both _ _ (every-at (goodMonth (c .months) (yearAt (c .suis) i) (countAt (c .suis) i) (monthsBefore (c .suis) i)) (natAbs (countAt (c .suis) i)) (months-parts .0) place k)
 
-      handle-is : (suiMonth c i place .handle ≡ handle (yearAt c i) (ordinal (place - leapsBefore c i place)) 0) ⊎ (suiMonth c i place .handle ≡ handle (yearAt c i) (ordinal (place - 1)) 1)
+      handle-is : (monthAt (c .months) (monthsBefore (c .suis) i + place) .handle ≡ handle (yearAt (c .suis) i) (ordinal (place - leapsBefore (c .months) (monthsBefore (c .suis) i) place)) 0) ⊎ (monthAt (c .months) (monthsBefore (c .suis) i + place) .handle ≡ handle (yearAt (c .suis) i) (ordinal (place - 1)) 1)
       unfolding goodHandle
       handle-is =
-          let h = suiMonth c i place .handle in
-          let ordinary = handle (yearAt c i) (ordinal (place - leapsBefore c i place)) 0 in
-          let leap = handle (yearAt c i) (ordinal (place - 1)) 1 in
+          let h = monthAt (c .months) (monthsBefore (c .suis) i + place) .handle in
+          let ordinary = handle (yearAt (c .suis) i) (ordinal (place - leapsBefore (c .months) (monthsBefore (c .suis) i) place)) 0 in
+          let leap = handle (yearAt (c .suis) i) (ordinal (place - 1)) 1 in
           ⊎-elim
           (λ (e : isExactly ordinary h ≡ true). inl (exactly-says ordinary h e))
-          (λ (e : (isExactly (pos 13) (monthsAt c i) && (eqb (leapsBefore c i place) 0 && (leb 1 place && isExactly leap h))) ≡ true).
-          let a = both (isExactly (pos 13) (monthsAt c i)) _ e in
-          let b = both (eqb (leapsBefore c i place) 0) _ (a .1) in
+          (λ (e : (isExactly (pos 13) (countAt (c .suis) i) && (eqb (leapsBefore (c .months) (monthsBefore (c .suis) i) place) 0 && (leb 1 place && isExactly leap h))) ≡ true).
+          let a = both (isExactly (pos 13) (countAt (c .suis) i)) _ e in
+          let b = both (eqb (leapsBefore (c .months) (monthsBefore (c .suis) i) place) 0) _ (a .1) in
           let d = both (leb 1 place) (isExactly leap h) (b .1) in
           inr (exactly-says leap h (d .1)))
           (one-of (isExactly ordinary h) _ (month-parts .0))
 
-      pub handle-small : Counted 4294967296 (suiMonth c i place .handle)
+      pub handle-small : Counted 4294967296 (monthAt (c .months) (monthsBefore (c .suis) i + place) .handle)
       handle-small =
-          ⊎-elim (λ e. small (ordinal (place - leapsBefore c i place)) 0 _ e (ordinal-small (place - leapsBefore c i place)) (omega arith)) (λ e. small (ordinal (place - 1)) 1 _ e (ordinal-small (place - 1)) (omega arith)) handle-is
+          ⊎-elim (λ e. small (ordinal (place - leapsBefore (c .months) (monthsBefore (c .suis) i) place)) 0 _ e (ordinal-small (place - leapsBefore (c .months) (monthsBefore (c .suis) i) place)) (omega arith)) (λ e. small (ordinal (place - 1)) 1 _ e (ordinal-small (place - 1)) (omega arith)) handle-is
         where
           ordinal-small : (p : ℕ) → ordinal p ≤ 12
           ordinal-small p = omega (arith, mod-lt (p + 10) {m = 12} (omega arith))
 
-          small : (number mark : ℕ) (h : ℤ) → h ≡ handle (yearAt c i) number mark → number ≤ 12 → mark ≤ 1 → Counted 4294967296 h
+          small : (number mark : ℕ) (h : ℤ) → h ≡ handle (yearAt (c .suis) i) number mark → number ≤ 12 → mark ≤ 1 → Counted 4294967296 h
           small number mark h e l m =
-              let y = yearAt c i in
+              let y = yearAt (c .suis) i in
               let ρ = y ∷ pos (2 * number + mark) ∷ h ∷ [] in
               let low = ⇓ ρ (year-range .0) (search ring) in
               let high = ⇓ ρ (year-range .1) (search ring) in
               let is : h ≡ pos 32 *ℤ y +ℤ pos (2 * number + mark) = e ∙ (unfold handle in refl) in
               counted-in 4294967296 h (⇑ ρ (search ring depth 9) (omega (arith, ⇓ ρ is (search ring depth 9)))) (⇑ ρ (search ring depth 9) (omega (arith, ⇓ ρ is (search ring depth 9))))
 
-      days-parts : (goodStart c (monthsBefore c i + place) ≡ true) × ((inRange (pos 29) (pos 30) (suiMonth c i place .length) ≡ true) × (hasDate (suiMonth c i place .first +ℤ suiMonth c i place .length -ℤ pos 1) ≡ true))
+      days-parts : (goodStart (c .months) (monthsBefore (c .suis) i + place) ≡ true) × ((inRange (pos 29) (pos 30) (monthAt (c .months) (monthsBefore (c .suis) i + place) .length) ≡ true) × (hasDate (monthAt (c .months) (monthsBefore (c .suis) i + place) .first +ℤ monthAt (c .months) (monthsBefore (c .suis) i + place) .length -ℤ pos 1) ≡ true))
       unfolding goodDays
       days-parts =
-          let a = both (goodStart c (monthsBefore c i + place)) _ (month-parts .1) in
-          let b = both (inRange (pos 29) (pos 30) (suiMonth c i place .length)) (hasDate (suiMonth c i place .first +ℤ suiMonth c i place .length -ℤ pos 1)) (a .1) in
+          let a = both (goodStart (c .months) (monthsBefore (c .suis) i + place)) _ (month-parts .1) in
+          let b = both (inRange (pos 29) (pos 30) (monthAt (c .months) (monthsBefore (c .suis) i + place) .length)) (hasDate (monthAt (c .months) (monthsBefore (c .suis) i + place) .first +ℤ monthAt (c .months) (monthsBefore (c .suis) i + place) .length -ℤ pos 1)) (a .1) in
           (a .0, (b .0, b .1))
 
-      pub length-range : (pos 29 ⩽ suiMonth c i place .length) × (suiMonth c i place .length ⩽ pos 30)
-      length-range = in-range-says (pos 29) (pos 30) (suiMonth c i place .length) (days-parts .1 .0)
+      pub length-range : (pos 29 ⩽ monthAt (c .months) (monthsBefore (c .suis) i + place) .length) × (monthAt (c .months) (monthsBefore (c .suis) i + place) .length ⩽ pos 30)
+      length-range = in-range-says (pos 29) (pos 30) (monthAt (c .months) (monthsBefore (c .suis) i + place) .length) (days-parts .1 .0)
 
-      pub last-day-range : (negsuc 149999 ⩽ suiMonth c i place .first +ℤ suiMonth c i place .length -ℤ pos 1) × (suiMonth c i place .first +ℤ suiMonth c i place .length -ℤ pos 1 ⩽ pos 200000)
+      pub last-day-range : (negsuc 149999 ⩽ monthAt (c .months) (monthsBefore (c .suis) i + place) .first +ℤ monthAt (c .months) (monthsBefore (c .suis) i + place) .length -ℤ pos 1) × (monthAt (c .months) (monthsBefore (c .suis) i + place) .first +ℤ monthAt (c .months) (monthsBefore (c .suis) i + place) .length -ℤ pos 1 ⩽ pos 200000)
       unfolding hasDate
-      last-day-range = in-range-says (negsuc 149999) (pos 200000) (suiMonth c i place .first +ℤ suiMonth c i place .length -ℤ pos 1) (days-parts .1 .1)
+      last-day-range = in-range-says (negsuc 149999) (pos 200000) (monthAt (c .months) (monthsBefore (c .suis) i + place) .first +ℤ monthAt (c .months) (monthsBefore (c .suis) i + place) .length -ℤ pos 1) (days-parts .1 .1)
 
-      first-small : mag (suiMonth c i place .first) < half4
+      first-small : mag (monthAt (c .months) (monthsBefore (c .suis) i + place) .first) < half4
       first-small =
-          let z = suiMonth c i place .first in
-          let n = suiMonth c i place .length in
+          let z = monthAt (c .months) (monthsBefore (c .suis) i + place) .first in
+          let n = monthAt (c .months) (monthsBefore (c .suis) i + place) .length in
           let ρ = z ∷ n ∷ [] in
           let l₁ = ⇓ ρ (length-range .0) (search ring) in
           let l₂ = ⇓ ρ (length-range .1) (search ring) in
           signed-in z (⇑ ρ (search ring depth 9) (omega (arith, ⇓ ρ (last-day-range .0) (search ring depth 9)))) (⇑ ρ (search ring depth 9) (omega (arith, ⇓ ρ (last-day-range .1) (search ring depth 9))))
 
-      length-small : Counted 256 (suiMonth c i place .length)
+      length-small : Counted 256 (monthAt (c .months) (monthsBefore (c .suis) i + place) .length)
       length-small =
-          let n = suiMonth c i place .length in
+          let n = monthAt (c .months) (monthsBefore (c .suis) i + place) .length in
           let ρ = n ∷ [] in
           counted-in 256 n (⇑ ρ (search ring) (omega (arith, ⇓ ρ (length-range .0) (search ring)))) (⇑ ρ (search ring) (omega (arith, ⇓ ρ (length-range .1) (search ring))))
 
@@ -185,27 +189,27 @@ module _ (c : Content) (r : Rules c) where
     pub i : ℕ
     pub place : ℕ
     pub sui-in : i < suiCount c
-    pub place-in : place < natAbs (monthsAt c i)
-    pub is : k ≡ monthsBefore c i + place
+    pub place-in : place < natAbs (countAt (c .suis) i)
+    pub is : k ≡ monthsBefore (c .suis) i + place
 
   pub placed : (k : ℕ) → k < monthCount c → Placed k
   unfolding monthsBefore
   placed k h = up-to (suiCount c) (omega arith) (omega (arith, months-counted))
     where
-      up-to : (n : ℕ) → n ≤ suiCount c → k < monthsBefore c n → Placed k
+      up-to : (n : ℕ) → n ≤ suiCount c → k < monthsBefore (c .suis) n → Placed k
       up-to zero l u = absurd (omega arith)
-      up-to (suc n) l u = go (λ v. up-to n (omega arith) v) (decLt k (monthsBefore c n))
+      up-to (suc n) l u = go (λ v. up-to n (omega arith) v) (decLt k (monthsBefore (c .suis) n))
         where
-          go : (k < monthsBefore c n → Placed k) → Dec (k < monthsBefore c n) → Placed k
+          go : (k < monthsBefore (c .suis) n → Placed k) → Dec (k < monthsBefore (c .suis) n) → Placed k
           go before (yes v) = before v
-          go before (no v) = record { i = n; place = k - monthsBefore c n; sui-in = omega arith; place-in = omega arith; is = omega arith }
+          go before (no v) = record { i = n; place = k - monthsBefore (c .suis) n; sui-in = omega arith; place-in = omega arith; is = omega arith }
 
-  months-up-to : (n : ℕ) → n ≤ suiCount c → monthsBefore c n ≤ 13 * n
+  months-up-to : (n : ℕ) → n ≤ suiCount c → monthsBefore (c .suis) n ≤ 13 * n
   unfolding monthsBefore
   months-up-to zero l = omega arith
   months-up-to (suc n) l =
       let before = months-up-to n (omega arith) in
-      ⊎-elim (λ (p : monthsAt c n ≡ pos 12). omega (arith, ap natAbs p)) (λ (p : monthsAt c n ≡ pos 13). omega (arith, ap natAbs p)) (count-is n (omega arith))
+      omega (arith, count-small n (omega arith))
 
   pub months-few : monthCount c ≤ 1664
   months-few = omega (arith, months-counted, months-up-to (suiCount c) (omega arith), few-suis)
@@ -270,11 +274,13 @@ lawful-fits c e = record {
 
     sui : (i : ℕ) → i < suiCount c → FitsField signed (getD (c .suis) (2 * i) (pos 0)) × FitsField one-byte (getD (c .suis) (2 * i + 1) (pos 0))
     sui i h =
-        let y = yearAt c i in
+        let y = yearAt (c .suis) i in
         let ρ = y ∷ [] in
-        let range = year-range c r i h in (
+        let range = year-range c r i h in
+        let σ = countAt (c .suis) i ∷ [] in
+        let months = count-range c r i h in (
           signed-in y (⇑ ρ (search ring) (omega (arith, ⇓ ρ (range .0) (search ring)))) (⇑ ρ (search ring) (omega (arith, ⇓ ρ (range .1) (search ring)))),
-          ⊎-elim (λ (p : monthsAt c i ≡ pos 12). record { number = 12; is = p; small = omega arith }) (λ (p : monthsAt c i ≡ pos 13). record { number = 13; is = p; small = omega arith }) (count-is c r i h),
+          counted-in 256 (countAt (c .suis) i) (⇑ σ (search ring) (omega (arith, ⇓ σ (months .0) (search ring)))) (⇑ σ (search ring) (omega (arith, ⇓ σ (months .1) (search ring)))),
         )
 
     month : (k : ℕ) → k < monthCount c → FitsField unsigned (getD (c .months) (3 * k) (pos 0)) × (FitsField signed (getD (c .months) (3 * k + 1) (pos 0)) × FitsField one-byte (getD (c .months) (3 * k + 2) (pos 0)))
