@@ -132,6 +132,7 @@ examples =
     ∷ isSui (rule (onFrom 0 (take 12 lengths ++ (31 ∷ 29 ∷ []))) (every 29 20 13)) twelve
     -- a new moon is missing: none behind the second solstice, none before the first, none at all
     ∷ isRefused (rule (take 14 moons) zhongqi) 8
+    ∷ isRefused (rule (take 14 moons) (with 384 385 zhongqi)) 8
     ∷ isRefused (rule (drop 1 moons) zhongqi) 8
     ∷ isRefused (rule [] zhongqi) 8
     -- years

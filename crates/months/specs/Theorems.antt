@@ -1,5 +1,5 @@
--- What is proved of the month rule, over the definitions of `Months`: handles tell year, number and leap mark, and differ; month 11 has a zhongqi; the
--- months meet; one result. Each theorem assumes what its statement says and nothing else.
+-- What is proved of the month rule, over its definitions: handles tell year, number and leap mark, and differ; month 11 has a zhongqi, and of thirteen
+-- months one has none; the months meet; one result. Assumes nothing but what a statement says itself.
 use mathlib.Core.Path.{_≡_, refl, sym, ap, _∙_}
 use mathlib.Core.Bool.{true, false, not}
 use mathlib.Core.List.{List}

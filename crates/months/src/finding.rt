@@ -1,8 +1,4 @@
 // The parts of finding the days of a sui in two lists of days.
-use super::DaysAnswer;
-use super::SuiDays;
-use refusals::Check;
-use refusals::Refusal;
 ghost use mathlib.Core.Path.{_≡_};
 ghost use mathlib.Core.List.{_++_};
 ghost use Prim.Native.Nat.{_+_, _-_, _≤_};
@@ -10,23 +6,7 @@ ghost use lib.IntN.{pos};
 ghost use lib.Signed.{leZ};
 ghost use lib.ListN.{length, take, drop, replicate};
 ghost use Rattle.whole.specs.Counted.{one};
-ghost use Rattle.refusals.specs.Verdict.{refusal};
 ghost use Rattle.months.specs.Months.{isMissing, twelveOrThirteen};
-ghost use Rattle.months.specs.Answers.{daysAnswer};
-
-// No days of a sui, for this reason.
-pub fn no_days(reason: Refusal) -> DaysAnswer
-    ensures { λ r. ⌜ r ≡ daysAnswer (refusal reason) ⌝ }
-{
-    DaysAnswer {
-        check: Check::Refused(reason),
-        days: SuiDays {
-            months: 0,
-            moons: [0; 14],
-            zhongqi: [0; 13],
-        },
-    }
-}
 
 // Whether a day counts: it is not after `day`.
 pub fn counts(d: i64, day: i64) -> usize

@@ -1,32 +1,65 @@
 // For crates that find the days of a sui elsewhere, or look for them in lists of their own.
 use super::DaysAnswer;
 use super::Month;
+use super::Sui;
 use super::SuiAnswer;
 use super::SuiDays;
 use super::finding::counts;
 use super::finding::fourteen;
 use super::finding::month_count;
 use super::finding::moon_missing;
-use super::finding::no_days;
 use super::finding::thirteen;
 use super::finding::twelve_or_thirteen;
 use super::numbering::first_bad_month;
 use super::numbering::handle;
 use super::numbering::leap_mark;
 use super::numbering::leap_month;
-use super::numbering::no_sui;
 use super::numbering::number_at;
 use super::numbering::numbered;
 use refusals::Check;
+use refusals::Refusal;
 use whole::inner::subtract;
 ghost use mathlib.Core.Path.{_≡_};
 ghost use mathlib.Core.Bool.{true};
 ghost use Prim.Native.Nat.{_<_};
 ghost use lib.ListN.{length};
+ghost use Rattle.refusals.specs.Verdict.{refusal};
 ghost use Rattle.whole.specs.Ranges.{Within, All};
 ghost use Rattle.months.specs.Handles.{monthOf};
 ghost use Rattle.months.specs.Months.{notAfter, twelveOrThirteen, daysOf, suiOf};
 ghost use Rattle.months.specs.Answers.{daysAnswer, suiAnswer};
+
+// No days of a sui, for this reason.
+pub fn no_days(reason: Refusal) -> DaysAnswer
+    ensures { λ r. ⌜ r ≡ daysAnswer (refusal reason) ⌝ }
+{
+    DaysAnswer {
+        check: Check::Refused(reason),
+        days: SuiDays {
+            months: 0,
+            moons: [0; 14],
+            zhongqi: [0; 13],
+        },
+    }
+}
+
+// No sui, for this reason.
+pub fn no_sui(reason: Refusal) -> SuiAnswer
+    ensures { λ r. ⌜ r ≡ suiAnswer (refusal reason) ⌝ }
+{
+    let none = Month {
+        handle: 0,
+        first: 0,
+        length: 0,
+    };
+    SuiAnswer {
+        check: Check::Refused(reason),
+        sui: Sui {
+            count: 0,
+            months: [none; 13],
+        },
+    }
+}
 
 // How many of the days are not after `day`.
 pub fn not_after(days: &[i64], day: i64) -> usize

@@ -46,12 +46,12 @@ pub fn months_of(year: i64, moons: &[i64], zhongqi: &[i64]) -> SuiAnswer
     ensures { λ r. ⌜ r ≡ suiAnswer (monthsOf year (now (moons .entry)) (now (zhongqi .entry))) ⌝ }
 {
     if !limits::lists_kept(year, moons, zhongqi) {
-        return numbering::no_sui(refusals::NO_SUI);
+        return inner::no_sui(refusals::NO_SUI);
     }
     let found = inner::days_of(moons, zhongqi);
     let check = found.check;
     if let Check::Refused(r) = check {
-        return numbering::no_sui(r);
+        return inner::no_sui(r);
     }
     inner::sui_of(year, found.days)
 }

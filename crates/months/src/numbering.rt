@@ -1,11 +1,8 @@
 // The parts of numbering the months of a sui: numbers and handles, zhongqi, lengths.
 use super::Month;
 use super::Sui;
-use super::SuiAnswer;
 use super::SuiDays;
 use super::inner::month_of;
-use refusals::Check;
-use refusals::Refusal;
 use whole::inner::add;
 use whole::inner::multiply;
 use whole::inner::signed;
@@ -15,28 +12,8 @@ ghost use mathlib.Core.Bool.{not};
 ghost use Prim.Native.Nat.{_+_, _<_, _≤_};
 ghost use Rattle.whole.specs.Ranges.{Within, All};
 ghost use Rattle.whole.specs.Counted.{one};
-ghost use Rattle.refusals.specs.Verdict.{refusal};
 ghost use Rattle.months.specs.Handles.{ordinal, numberAt, leapMark, handle, monthOf};
 ghost use Rattle.months.specs.Months.{isWithin, zhongqiIn, without, firstWithout, leapMonth, goodLength, badMonth, firstBadMonth, monthFirst, numbered};
-ghost use Rattle.months.specs.Answers.{suiAnswer};
-
-// No sui, for this reason.
-pub fn no_sui(reason: Refusal) -> SuiAnswer
-    ensures { λ r. ⌜ r ≡ suiAnswer (refusal reason) ⌝ }
-{
-    let none = Month {
-        handle: 0,
-        first: 0,
-        length: 0,
-    };
-    SuiAnswer {
-        check: Check::Refused(reason),
-        sui: Sui {
-            count: 0,
-            months: [none; 13],
-        },
-    }
-}
 
 // The number of a place where no leap month came before.
 pub fn ordinal(place: usize) -> usize

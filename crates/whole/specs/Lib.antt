@@ -17,3 +17,4 @@ pub mod Tabulated
 pub mod Found
 pub mod Bounded
 pub mod Lent
+pub mod OneResult

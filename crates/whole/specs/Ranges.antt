@@ -112,13 +112,6 @@ below-zero {a} f h = go a (f .sfits) h
     go (pos n) f h = absurd (omega (arith, <→ h))
     go (negsuc n) f h = rw (back-up n) (record { sfits = f }, (tt, (record { fits = omega arith }, omega arith)))
 
--- what a call's `.ok` says of its result, as the range, and the result read back from its bits
-pub ok-fits : (z : ℤ) → mag z < 2 ^ 63 → SFits w64 z
-ok-fits z h = record { sfits = h }
-
-pub read-back : (z : ℤ) → mag z < 2 ^ 63 → toZ w64 (ofZ w64 z) ≡ z
-read-back z h = toZ-ofZ (ok-fits z h)
-
 -- a signed local holds bits: the range that a call's `.ok` tells of its result, and the result read back from its bits
 pub fits-of : (z : ℤ) → mag z < 2 ^ 63 → SFits w64 z
 fits-of z h = record { sfits = h }

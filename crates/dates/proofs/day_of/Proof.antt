@@ -6,7 +6,7 @@ use native.Mathlib.Omega.{arith}
 use borrow.Author.Needs.{needs}
 use borrow.Author.Tests.{not-true, not-false}
 use lib.IntN.{pos}
-use Rattle.whole.specs.Ranges.{read-back}
+use Rattle.whole.specs.Ranges.{back}
 use Rattle.whole.specs.Solver.{⇑, ⇓, ring}
 use Rattle.whole.specs.Tests.{inRange, in-range-says}
 use Rattle.dates.specs.Answers.{hasDate}
@@ -19,7 +19,7 @@ use Rattle.dates.proofs.day_of.Tie as tie
 at-year : (c : tie.After-in-range) → inRange (pos 1500) (pos 2600) (c .before .before .args .date .year) ≡ c .in-range .result
 at-year c =
     let told = c .before in
-    sym (rw (read-back (told .before .args .date .year) (told .struct-told .given .0 .1)) at (c .in-range .ensures))
+    sym (rw (back (told .before .args .date .year) (told .struct-told .given .0 .1)) at (c .in-range .ensures))
 
 a-date : (c : tie.Else2) → valid (c .before .before .before .before .before .args .date) ≡ true
 a-date c = sym (c .before .valid .ensures) ∙ not-false (c .before .valid .result) (c .if2 .left)

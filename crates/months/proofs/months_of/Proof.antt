@@ -19,7 +19,7 @@ use Rattle.months.proofs.months_of.Reads as reads
 use Rattle.months.proofs.months_of.Lts as lts
 use Rattle.months.proofs.inner.days_of.Reads as days-of-reads
 use Rattle.months.proofs.limits.lists_kept.Reads as lists-kept-reads
-use Rattle.months.proofs.numbering.no_sui.Reads as no-sui-reads
+use Rattle.months.proofs.inner.no_sui.Reads as no-sui-reads
 use Rattle.months.proofs.inner.sui_of.Reads as sui-of-reads
 
 abbrev called : lts.Claims

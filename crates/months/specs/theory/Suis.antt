@@ -39,9 +39,6 @@ module _ (year : ℤ) (days : SuiDays) {sui : Sui} (accepted : suiOf year days �
   pub no-bad-month : ltb (firstBadMonth days) (days .months) ≡ false
   no-bad-month = lengths-pass .0
 
-  pub some-without : noneWithout days ≡ false
-  some-without = leap-passes .0
-
   pub sui-is : numbered year days ≡ sui
   sui-is = answers-apart (leap-passes .1)
 

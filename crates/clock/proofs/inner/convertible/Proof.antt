@@ -1,6 +1,6 @@
 -- `clock::inner::convertible` meets its contract. Assumes nothing.
 use borrow.Author.Needs.{needs}
-use Rattle.whole.specs.Ranges.{read-back}
+use Rattle.whole.specs.Ranges.{back}
 use Rattle.clock.specs.Clock.{convertible}
 use Rattle.clock.proofs.inner.convertible.Statement.{statement}
 use Rattle.clock.proofs.inner.convertible.Tie as tie
@@ -12,7 +12,7 @@ returns : tie.Need-returns
 unfolding convertible
 returns c =
     let told = c .before in
-    rw (read-back (told .before .args .second .0) (told .struct-told .given .0 .1)) at (c .in-range .ensures)
+    rw (back (told .before .args .second .0) (told .struct-told .given .0 .1)) at (c .in-range .ensures)
 
 pub convertible-spec : {M : Type 1} → statement M
 convertible-spec = tie.close (tie.spec in-range-requires returns)

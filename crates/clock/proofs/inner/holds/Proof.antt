@@ -1,6 +1,6 @@
 -- `clock::inner::holds` meets its contract. Assumes nothing.
 use borrow.Author.Needs.{needs}
-use Rattle.whole.specs.Ranges.{read-back}
+use Rattle.whole.specs.Ranges.{back}
 use Rattle.clock.specs.Leap.{holds}
 use Rattle.clock.proofs.inner.holds.Statement.{statement}
 use Rattle.clock.proofs.inner.holds.Tie as tie
@@ -13,7 +13,7 @@ unfolding holds
 returns c =
     let told = c .before .before in
     let from = told .before .before in
-    rw (read-back (from .holds-from .result .0) (told .struct-told .given .0 .1), from .holds-from .ensures, read-back (from .before .args .t .0) (c .struct-told2 .given .0 .1))
+    rw (back (from .holds-from .result .0) (told .struct-told .given .0 .1), from .holds-from .ensures, back (from .before .args .t .0) (c .struct-told2 .given .0 .1))
 
 pub holds-spec : {M : Type 1} → statement M
 holds-spec = tie.close (tie.spec holds-from-requires returns)

@@ -1,6 +1,6 @@
 -- `clock::inner::local_milli` meets its contract. Assumes nothing.
 use mir.Facts.{toZ-ofZ}
-use Rattle.whole.specs.Ranges.{fits, bounds, bound-back, read-back}
+use Rattle.whole.specs.Ranges.{fits, bounds, bound-back, back}
 use Rattle.clock.specs.Clock.{localMilli}
 use Rattle.clock.proofs.inner.local_milli.Statement.{statement}
 use Rattle.clock.proofs.inner.local_milli.Tie as tie
@@ -21,7 +21,7 @@ returns : tie.Need-returns
 unfolding localMilli
 returns c =
     let start = c .before in
-    rw (toZ-ofZ (add-t8 c), toZ-ofZ (mul-t7 c), toZ-ofZ (sub-t6 c), toZ-ofZ (mul-t5 c), read-back (start .args .t .0) (c .struct-told .given .0 .1), toZ-ofZ (start .fits .offset), toZ-ofZ (start .fits .zone))
+    rw (toZ-ofZ (add-t8 c), toZ-ofZ (mul-t7 c), toZ-ofZ (sub-t6 c), toZ-ofZ (mul-t5 c), back (start .args .t .0) (c .struct-told .given .0 .1), toZ-ofZ (start .fits .offset), toZ-ofZ (start .fits .zone))
 
 pub local-milli-spec : {M : Type 1} → statement M
 local-milli-spec = tie.close (tie.spec mul-t5 sub-t6 mul-t7 add-t8 returns)

@@ -1,6 +1,6 @@
 -- `clock::inner::moment_of` meets its contract. Assumes nothing.
 use mir.Facts.{toZ-ofZ}
-use Rattle.whole.specs.Ranges.{fits, bounds, bound-back, read-back}
+use Rattle.whole.specs.Ranges.{fits, bounds, bound-back, back}
 use Rattle.clock.proofs.inner.moment_of.Statement.{statement}
 use Rattle.clock.proofs.inner.moment_of.Tie as tie
 
@@ -16,7 +16,7 @@ mul-t6 c = fits (search (bounds, bound-back (mul-t4 c), bound-back (add-t5 c)) d
 returns : tie.Need-returns
 returns c =
     let start = c .before in
-    rw (toZ-ofZ (mul-t6 c), toZ-ofZ (add-t5 c), toZ-ofZ (mul-t4 c), read-back (start .args .day .0) (c .struct-told .given .0 .1), toZ-ofZ (start .fits .offset))
+    rw (toZ-ofZ (mul-t6 c), toZ-ofZ (add-t5 c), toZ-ofZ (mul-t4 c), back (start .args .day .0) (c .struct-told .given .0 .1), toZ-ofZ (start .fits .offset))
 
 pub moment-of-spec : {M : Type 1} → statement M
 moment-of-spec = tie.close (tie.spec mul-t4 add-t5 mul-t6 returns)

@@ -6,7 +6,7 @@ use lib.Signed.{leZ}
 use mir.Syntax.{w64}
 use mir.Val.{toZ, ofZ}
 use mir.Facts.{toZ-ofZ}
-use Rattle.whole.specs.Ranges.{read-back}
+use Rattle.whole.specs.Ranges.{back}
 use Rattle.whole.specs.Tests.{less, not-less}
 use Rattle.clock.specs.Leap.{utcDay, nextEntry}
 use Rattle.clock.proofs.inner.next_entry.Statement.{statement}
@@ -29,7 +29,7 @@ at-days : (c : tie.After-struct-told2) →
 at-days c =
     let told = c .before .before in
     let start = told .before .before .before .before in
-    rw (read-back (start .args .day .0) (told .struct-told .given .0 .1), read-back (start .args .d .0) (c .struct-told2 .given .0 .1))
+    rw (back (start .args .day .0) (told .struct-told .given .0 .1), back (start .args .d .0) (c .struct-told2 .given .0 .1))
 
 returns-2 : tie.Need-returns-2
 unfolding nextEntry

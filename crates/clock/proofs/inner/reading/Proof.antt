@@ -5,7 +5,7 @@ use borrow.Author.Needs.{needs}
 use mir.Syntax.{w64}
 use mir.Val.{toZ, ofZ}
 use mir.Facts.{toZ-ofZ}
-use Rattle.whole.specs.Ranges.{read-back}
+use Rattle.whole.specs.Ranges.{back}
 use Rattle.clock.specs.Leap.{offset, entryUsed}
 use Rattle.clock.specs.Clock.{tai, reading}
 use Rattle.clock.specs.theory.Used.{used}
@@ -22,7 +22,7 @@ at-entry : (c : tie.After-entry-used) → (let start = c .before .before in c .e
 at-entry c = rw (c .before .tai-of .ensures) at (c .entry-used .ensures)
 
 at-offset : (c : tie.After-offset-at) → (let start = c .before .before .before in toZ w64 (ofZ w64 (c .offset-at .result)) ≡ offset (start .args .leap .now) (entryUsed (start .args .leap .now) (tai (start .args .second))))
-at-offset c = read-back (c .offset-at .result) (c .offset-at .ok) ∙ (rw (at-entry (c .before)) at (c .offset-at .ensures))
+at-offset c = back (c .offset-at .result) (c .offset-at .ok) ∙ (rw (at-entry (c .before)) at (c .offset-at .ensures))
 
 -- ---- the needs
 entry-used-requires : tie.Need-entry-used-requires

@@ -3,7 +3,7 @@ use Prim.Native.Nat.{_/_, _%_}
 use mathlib.Core.Path.{_≡_, ap, _∙_}
 use borrow.Author.Needs.{needs}
 use lib.IntN.{natAbs}
-use Rattle.whole.specs.Ranges.{read-back}
+use Rattle.whole.specs.Ranges.{back}
 use Rattle.whole.specs.Floor.{floorMod}
 use Rattle.times.specs.declared.Day.{Day}
 use Rattle.dates.specs.Answers.{hasDate}
@@ -30,7 +30,7 @@ returns c =
     let dated = c .before .before in
     let told = dated .before .before in
     let m = told .before .args .milli in
-    let r = read-back (c .before .floor-mod .result) (c .before .floor-mod .ok) ∙ (rw (read-back (m .0) (told .struct-told .given .0 .1)) at (c .before .floor-mod .ensures)) in
+    let r = back (c .before .floor-mod .result) (c .before .floor-mod .ok) ∙ (rw (back (m .0) (told .struct-told .given .0 .1)) at (c .before .floor-mod .ensures)) in
     let rest : c .absolute .result ≡ floorMod (m .0) 86400000 = c .absolute .ensures ∙ ap natAbs r in
     let date = dated .date-for .ensures ∙ ap (λ (d : Day). dateFor (d .0)) (dated .before .day-of-milli .ensures) in
     λ t. record { date = date t; hour = rest t / 3600000; minute = rest t / 60000 % 60; second = rest t / 1000 % 60; millisecond = rest t % 1000 }

@@ -1,6 +1,6 @@
 -- `clock::inner::tai_of` meets its contract. Assumes nothing.
 use mir.Facts.{toZ-ofZ}
-use Rattle.whole.specs.Ranges.{fits, bounds, bound-back, read-back}
+use Rattle.whole.specs.Ranges.{fits, bounds, bound-back, back}
 use Rattle.clock.specs.Clock.{tai}
 use Rattle.clock.specs.theory.Sizes.{second-small}
 use Rattle.clock.proofs.inner.tai_of.Statement.{statement}
@@ -14,7 +14,7 @@ sub-t4 c = let small = second-small (c .before .args .second) (c .before .pre) i
 
 returns : tie.Need-returns
 unfolding tai
-returns c = rw (toZ-ofZ (sub-t4 c), toZ-ofZ (mul-t3 c), read-back (c .before .args .second .0) (c .struct-told .given .0 .1))
+returns c = rw (toZ-ofZ (sub-t4 c), toZ-ofZ (mul-t3 c), back (c .before .args .second .0) (c .struct-told .given .0 .1))
 
 pub tai-of-spec : {M : Type 1} → statement M
 tai-of-spec = tie.close (tie.spec mul-t3 sub-t4 returns)

@@ -3,7 +3,7 @@ use mathlib.Core.Path.{_≡_, _∙_}
 use native.Mathlib.Omega.{arith}
 use mir.Syntax.{w64}
 use mir.Val.{toZ, ofZ}
-use Rattle.whole.specs.Ranges.{read-back}
+use Rattle.whole.specs.Ranges.{back}
 use Rattle.dates.specs.Calendar.{newYear, yearOf, dateFor}
 use Rattle.dates.specs.theory.Years.{year-found}
 use Rattle.dates.specs.theory.Days.{daysOver, day-within}
@@ -13,17 +13,17 @@ use Rattle.dates.proofs.inner.date_for.Tie as tie
 
 -- ---- what each call gives
 at-year : (c : tie.After-year-of) → toZ w64 (ofZ w64 (c .year-of .result)) ≡ yearOf (c .before .args .day .0)
-at-year c = read-back (c .year-of .result) (c .year-of .ok) ∙ c .year-of .ensures
+at-year c = back (c .year-of .result) (c .year-of .ok) ∙ c .year-of .ensures
 
 at-first : (c : tie.After-struct-told) → (let first = c .before in toZ w64 (ofZ w64 (first .new-year .result .0)) ≡ newYear (yearOf (first .before .before .args .day .0)))
 at-first c =
     let first = c .before in
-    read-back (first .new-year .result .0) (c .struct-told .given .0 .1) ∙ (rw (at-year (first .before)) at (first .new-year .ensures))
+    back (first .new-year .result .0) (c .struct-told .given .0 .1) ∙ (rw (at-year (first .before)) at (first .new-year .ensures))
 
 at-day : (c : tie.After-struct-told2) → (let start = c .before .before .before .before in toZ w64 (ofZ w64 (start .args .day .0)) ≡ start .args .day .0)
 at-day c =
     let start = c .before .before .before .before in
-    read-back (start .args .day .0) (c .struct-told2 .given .0 .1)
+    back (start .args .day .0) (c .struct-told2 .given .0 .1)
 
 at-over : (c : tie.After-distance) → (let start = c .before .before .before .before .before in c .distance .result ≡ daysOver (start .args .day .0))
 unfolding daysOver

@@ -7,7 +7,7 @@ use borrow.Author.Needs.{needs}
 use lib.IntN.{pos}
 use lib.ListN.{take}
 use mir.Facts.{toZ-ofZ}
-use Rattle.whole.specs.Ranges.{read-back}
+use Rattle.whole.specs.Ranges.{back}
 use Rattle.dates.specs.Calendar.{leapYear, lengthsIn, total, monthsOver, dateInYear}
 use Rattle.dates.specs.theory.Months.{InMonth, month-found}
 use Rattle.dates.specs.theory.Days.{twelve}
@@ -88,8 +88,8 @@ returns c =
     let start = over .before .before .before in
     let m : over .months-over .result + 1 ≡ suc (monthsOver (lengthsIn (start .args .y)) (start .args .k)) = omega (arith, at-over over) in
     let d : start .args .k - days .days-of .result + 1 ≡ suc (start .args .k - total (take (monthsOver (lengthsIn (start .args .y)) (start .args .k)) (lengthsIn (start .args .y)))) = rw (at-days days, at-over over) (omega arith) in
-    let month = read-back (c .before .signed .result) (c .before .signed .ok) ∙ c .before .signed .ensures ∙ ap pos m in
-    let day = read-back (c .signed2 .result) (c .signed2 .ok) ∙ c .signed2 .ensures ∙ ap pos d in
+    let month = back (c .before .signed .result) (c .before .signed .ok) ∙ c .before .signed .ensures ∙ ap pos m in
+    let day = back (c .signed2 .result) (c .signed2 .ok) ∙ c .signed2 .ensures ∙ ap pos d in
     λ t. record { year = toZ-ofZ (start .fits .y) t; month = month t; day = day t }
 
 pub date-in-year-spec : {M : Type 1} → statement M

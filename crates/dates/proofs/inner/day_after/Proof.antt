@@ -1,6 +1,6 @@
 -- `dates::inner::day_after` meets its contract. Assumes nothing.
 use mir.Facts.{toZ-ofZ}
-use Rattle.whole.specs.Ranges.{fits, bounds, bound-back, read-back}
+use Rattle.whole.specs.Ranges.{fits, bounds, bound-back, back}
 use Rattle.dates.proofs.inner.day_after.Statement.{statement}
 use Rattle.dates.proofs.inner.day_after.Tie as tie
 
@@ -16,7 +16,7 @@ sub-t7 c = fits (search (bounds, bound-back (add-t5 c), bound-back (add-t6 c)) d
 returns : tie.Need-returns
 returns c =
     let start = c .before in
-    rw (toZ-ofZ (sub-t7 c), toZ-ofZ (add-t6 c), toZ-ofZ (add-t5 c), read-back (start .args .first .0) (c .struct-told .given .0 .1), toZ-ofZ (start .fits .before), toZ-ofZ (start .fits .day))
+    rw (toZ-ofZ (sub-t7 c), toZ-ofZ (add-t6 c), toZ-ofZ (add-t5 c), back (start .args .first .0) (c .struct-told .given .0 .1), toZ-ofZ (start .fits .before), toZ-ofZ (start .fits .day))
 
 pub day-after-spec : {M : Type 1} → statement M
 day-after-spec = tie.close (tie.spec add-t5 add-t6 sub-t7 returns)

@@ -8,7 +8,7 @@ use lib.IntN.{pos, natAbs}
 use lib.ListN.{take}
 use mir.Facts.{toZ-ofZ}
 use Rattle.whole.specs.Parts.{ℤ-rules}
-use Rattle.whole.specs.Ranges.{read-back}
+use Rattle.whole.specs.Ranges.{back}
 use Rattle.dates.specs.Calendar.{leapYear, lengthsIn, total, daysBefore}
 use Rattle.dates.specs.theory.Months.{take-below}
 use Rattle.dates.specs.theory.Days.{twelve}
@@ -60,7 +60,7 @@ returns c =
     let days = c .before in
     let counted = days .before .before in
     let m : counted .count .result ≡ natAbs (counted .before .before .args .m) = ap natAbs (at-count counted) in
-    read-back (c .signed .result) (c .signed .ok) ∙ c .signed .ensures ∙ ap pos (rw m at (at-days days))
+    back (c .signed .result) (c .signed .ok) ∙ c .signed .ensures ∙ ap pos (rw m at (at-days days))
 
 pub days-before-spec : {M : Type 1} → statement M
 days-before-spec =

@@ -8,7 +8,7 @@ use lib.IntN.{pos, natAbs}
 use lib.Signed.{ltZ}
 use lib.Dec.{eqb}
 use mir.Facts.{toZ-ofZ}
-use Rattle.whole.specs.Ranges.{read-back}
+use Rattle.whole.specs.Ranges.{back}
 use Rattle.whole.specs.Floor.{floorMod}
 use Rattle.dates.proofs.inner.divides.Statement.{statement}
 use Rattle.dates.proofs.inner.divides.Tie as tie
@@ -24,7 +24,7 @@ returns : tie.Need-returns
 returns c =
     let start = c .before in
     let rest = rw (toZ-ofZ (start .fits .y), toZ-ofZ (start .fits .m)) at (c .floor-mod .ensures) in
-    rw (read-back (c .floor-mod .result) (c .floor-mod .ok), rest) (less-than-one (floorMod (start .args .y) (natAbs (start .args .m))))
+    rw (back (c .floor-mod .result) (c .floor-mod .ok), rest) (less-than-one (floorMod (start .args .y) (natAbs (start .args .m))))
 
 pub divides-spec : {M : Type 1} → statement M
 divides-spec = tie.close (tie.spec floor-mod-requires returns)

@@ -4,7 +4,7 @@ use borrow.Author.Needs.{needs}
 use mir.Syntax.{w64}
 use mir.Val.{toZ, ofZ}
 use mir.Facts.{toZ-ofZ}
-use Rattle.whole.specs.Ranges.{fits, bounds, read-back}
+use Rattle.whole.specs.Ranges.{fits, bounds, back}
 use Rattle.whole.specs.Floor.{floorDiv, bound-floor}
 use Rattle.dates.specs.Calendar.{leapYearsTo}
 use Rattle.dates.proofs.inner.leap_years_to.Statement.{statement}
@@ -12,15 +12,15 @@ use Rattle.dates.proofs.inner.leap_years_to.Tie as tie
 
 -- ---- what each call gives
 at-4 : (c : tie.After-floor-div) → toZ w64 (ofZ w64 (c .floor-div .result)) ≡ floorDiv (c .before .args .y) 4
-at-4 c = read-back (c .floor-div .result) (c .floor-div .ok) ∙ (rw (toZ-ofZ (c .before .fits .y)) at (c .floor-div .ensures))
+at-4 c = back (c .floor-div .result) (c .floor-div .ok) ∙ (rw (toZ-ofZ (c .before .fits .y)) at (c .floor-div .ensures))
 
 at-100 : (c : tie.After-floor-div2) → toZ w64 (ofZ w64 (c .floor-div2 .result)) ≡ floorDiv (c .before .before .args .y) 100
-at-100 c = read-back (c .floor-div2 .result) (c .floor-div2 .ok) ∙ (rw (toZ-ofZ (c .before .before .fits .y)) at (c .floor-div2 .ensures))
+at-100 c = back (c .floor-div2 .result) (c .floor-div2 .ok) ∙ (rw (toZ-ofZ (c .before .before .fits .y)) at (c .floor-div2 .ensures))
 
 at-400 : (c : tie.After-floor-div3) → (let start = c .before .before .before in toZ w64 (ofZ w64 (c .floor-div3 .result)) ≡ floorDiv (start .args .y) 400)
 at-400 c =
     let start = c .before .before .before in
-    read-back (c .floor-div3 .result) (c .floor-div3 .ok) ∙ (rw (toZ-ofZ (start .fits .y)) at (c .floor-div3 .ensures))
+    back (c .floor-div3 .result) (c .floor-div3 .ok) ∙ (rw (toZ-ofZ (start .fits .y)) at (c .floor-div3 .ensures))
 
 -- ---- the needs
 floor-div-requires : tie.Need-floor-div-requires

@@ -6,7 +6,7 @@ use borrow.Author.Needs.{needs}
 use lib.IntN.{pos, natAbs}
 use mir.Facts.{toZ-ofZ}
 use Rattle.whole.specs.Parts.{ℤ-rules}
-use Rattle.whole.specs.Ranges.{read-back}
+use Rattle.whole.specs.Ranges.{back}
 use Rattle.dates.specs.Calendar.{lengthsIn, monthLength}
 use Rattle.dates.specs.theory.Sizes.{month-small}
 use Rattle.dates.proofs.inner.month_length.Statement.{statement}
@@ -45,7 +45,7 @@ unfolding monthLength
 returns c =
     let counted = c .before in
     let m : counted .count .result ≡ natAbs (counted .before .before .args .m) = ap natAbs (at-count counted) in
-    read-back (c .signed .result) (c .signed .ok) ∙ (rw (at-lengths (counted .before), m) at (c .signed .ensures))
+    back (c .signed .result) (c .signed .ok) ∙ (rw (at-lengths (counted .before), m) at (c .signed .ensures))
 
 pub month-length-spec : {M : Type 1} → statement M
 month-length-spec =

@@ -4,7 +4,7 @@ use lib.IntN.{pos, _-ℤ_}
 use mir.Syntax.{w64}
 use mir.Val.{toZ, ofZ}
 use mir.Facts.{toZ-ofZ}
-use Rattle.whole.specs.Ranges.{Within, fits, within, bounds, bound-back, read-back}
+use Rattle.whole.specs.Ranges.{Within, fits, within, bounds, bound-back, back}
 use Rattle.dates.specs.Calendar.{leapYearsTo, newYear}
 use Rattle.dates.specs.theory.Sizes.{leap-years-small}
 use Rattle.dates.proofs.inner.new_year.Statement.{statement}
@@ -23,7 +23,7 @@ leap-years-to-requires : tie.Need-leap-years-to-requires
 leap-years-to-requires c κs = within (search (bounds, bound-back (sub-leap-years-to c))) tt
 
 at-leap : (c : tie.After-leap-years-to) → toZ w64 (ofZ w64 (c .leap-years-to .result)) ≡ leapYearsTo (c .before .args .y -ℤ pos 1)
-at-leap c = read-back (c .leap-years-to .result) (c .leap-years-to .ok) ∙ (rw (toZ-ofZ (sub-leap-years-to (c .before)), toZ-ofZ (c .before .fits .y)) at (c .leap-years-to .ensures))
+at-leap c = back (c .leap-years-to .result) (c .leap-years-to .ok) ∙ (rw (toZ-ofZ (sub-leap-years-to (c .before)), toZ-ofZ (c .before .fits .y)) at (c .leap-years-to .ensures))
 
 small : (c : tie.After-leap-years-to) → Within 6000000000 (leapYearsTo (c .before .args .y -ℤ pos 1))
 small c = leap-years-small (c .before .args .y -ℤ pos 1) (within (search bounds) tt)

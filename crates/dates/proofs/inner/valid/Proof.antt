@@ -6,7 +6,7 @@ use borrow.Author.Tests.{not-true, not-false}
 use lib.IntN.{pos}
 use mir.Syntax.{w64}
 use mir.Val.{toZ, ofZ}
-use Rattle.whole.specs.Ranges.{read-back}
+use Rattle.whole.specs.Ranges.{back}
 use Rattle.whole.specs.Tests.{inRange, in-range-says}
 use Rattle.dates.specs.Calendar.{monthLength, validDate}
 use Rattle.dates.proofs.inner.valid.Statement.{statement}
@@ -16,7 +16,7 @@ use Rattle.dates.proofs.inner.valid.Tie as tie
 at-month : (c : tie.After-in-range) → inRange (pos 1) (pos 12) (c .before .before .args .date .month) ≡ c .in-range .result
 at-month c =
     let told = c .before in
-    sym (rw (read-back (told .before .args .date .month) (told .struct-told .given .1 .0 .1)) at (c .in-range .ensures))
+    sym (rw (back (told .before .args .date .month) (told .struct-told .given .1 .0 .1)) at (c .in-range .ensures))
 
 a-month : (c : tie.Else1) → inRange (pos 1) (pos 12) (c .before .before .before .args .date .month) ≡ true
 a-month c = at-month (c .before) ∙ not-false (c .before .in-range .result) (c .if1 .left)
@@ -26,8 +26,8 @@ at-length c =
     let told = c .before in
     let month = told .before .before .before in
     let date = month .before .args .date in
-    read-back (c .month-length .result) (c .month-length .ok)
-    ∙ (rw (read-back (date .year) (told .struct-told2 .given .0 .1), read-back (date .month) (month .struct-told .given .1 .0 .1)) at (c .month-length .ensures))
+    back (c .month-length .result) (c .month-length .ok)
+    ∙ (rw (back (date .year) (told .struct-told2 .given .0 .1), back (date .month) (month .struct-told .given .1 .0 .1)) at (c .month-length .ensures))
 
 -- ---- the needs
 in-range-requires : tie.Need-in-range-requires
@@ -41,7 +41,7 @@ month-length-requires : tie.Need-month-length-requires
 month-length-requires c κs =
     let told = c .before .before .before in
     let m = told .before .args .date .month in
-    rw (read-back m (told .struct-told .given .1 .0 .1)) (in-range-says (pos 1) (pos 12) m (a-month (c .before)))
+    rw (back m (told .struct-told .given .1 .0 .1)) (in-range-says (pos 1) (pos 12) m (a-month (c .before)))
 
 in-range-requires-2 : tie.Need-in-range-requires-2
 in-range-requires-2 c κs = search needs
@@ -53,7 +53,7 @@ returns-2 c =
     let length = told .before in
     let month = length .before .before in
     let date = month .before .before .before .args .date in
-    rw (a-month month) (rw (at-length length, read-back (date .day) (told .struct-told3 .given .1 .1 .0 .1)) at (c .in-range2 .ensures))
+    rw (a-month month) (rw (at-length length, back (date .day) (told .struct-told3 .given .1 .1 .0 .1)) at (c .in-range2 .ensures))
 
 pub valid-spec : {M : Type 1} → statement M
 valid-spec =

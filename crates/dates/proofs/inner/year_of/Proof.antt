@@ -5,7 +5,7 @@ use lib.Signed.{ltZ}
 use mir.Syntax.{w64}
 use mir.Val.{toZ, ofZ}
 use mir.Facts.{toZ-ofZ}
-use Rattle.whole.specs.Ranges.{fits, within, bounds, read-back}
+use Rattle.whole.specs.Ranges.{fits, within, bounds, back}
 use Rattle.dates.specs.Calendar.{newYear, yearOrNext, yearOf}
 use Rattle.dates.specs.theory.Sizes.{near-small}
 use Rattle.dates.proofs.inner.year_of.Statement.{statement}
@@ -13,7 +13,7 @@ use Rattle.dates.proofs.inner.year_of.Tie as tie
 
 -- ---- what each call gives
 at-near : (c : tie.After-year-or-next) → toZ w64 (ofZ w64 (c .year-or-next .result)) ≡ yearOrNext (c .before .args .day .0)
-at-near c = read-back (c .year-or-next .result) (c .year-or-next .ok) ∙ c .year-or-next .ensures
+at-near c = back (c .year-or-next .result) (c .year-or-next .ok) ∙ c .year-or-next .ensures
 
 at-first : (c : tie.After-new-year) → c .new-year .result .0 ≡ newYear (yearOrNext (c .before .before .args .day .0))
 at-first c = rw (at-near (c .before)) at (c .new-year .ensures)
@@ -41,7 +41,7 @@ at-test : (c : tie.After-struct-told2) →
 at-test c =
     let told = c .before .before in
     let first = told .before .before in
-    rw (read-back (first .before .before .args .day .0) (told .struct-told .given .0 .1), read-back (first .new-year .result .0) (c .struct-told2 .given .0 .1), at-first first)
+    rw (back (first .before .before .args .day .0) (told .struct-told .given .0 .1), back (first .new-year .result .0) (c .struct-told2 .given .0 .1), at-first first)
 
 returns : tie.Need-returns
 unfolding yearOf

@@ -5,7 +5,7 @@ use lib.IntN.{pos, _+ℤ_, _*ℤ_}
 use mir.Syntax.{w64}
 use mir.Val.{toZ, ofZ}
 use mir.Facts.{toZ-ofZ}
-use Rattle.whole.specs.Ranges.{fits, bounds, bound-back, read-back}
+use Rattle.whole.specs.Ranges.{fits, bounds, bound-back, back}
 use Rattle.whole.specs.Floor.{floorDiv, bound-floor}
 use Rattle.dates.specs.Calendar.{yearOrNext}
 use Rattle.dates.proofs.inner.year_or_next.Statement.{statement}
@@ -23,8 +23,8 @@ floor-div-requires c κs = search needs
 at-quotient : (c : tie.After-floor-div) → toZ w64 (ofZ w64 (c .floor-div .result)) ≡ floorDiv (pos 400 *ℤ c .before .before .args .day .0 +ℤ pos 396) 146097
 at-quotient c =
     let told = c .before in
-    read-back (c .floor-div .result) (c .floor-div .ok)
-    ∙ (rw (toZ-ofZ (add-floor-div told), toZ-ofZ (mul-floor-div told), read-back (told .before .args .day .0) (told .struct-told .given .0 .1)) at (c .floor-div .ensures))
+    back (c .floor-div .result) (c .floor-div .ok)
+    ∙ (rw (toZ-ofZ (add-floor-div told), toZ-ofZ (mul-floor-div told), back (told .before .args .day .0) (told .struct-told .given .0 .1)) at (c .floor-div .ensures))
 
 add-result : tie.Need-add-result
 add-result c = rw (at-quotient c) (fits (search (bounds, bound-floor) depth 9) tt)

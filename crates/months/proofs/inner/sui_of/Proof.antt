@@ -16,7 +16,7 @@ use Rattle.months.proofs.inner.sui_of.Reads as reads
 use Rattle.months.proofs.inner.sui_of.Lts as lts
 use Rattle.months.proofs.numbering.first_bad_month.Reads as first-bad-month-reads
 use Rattle.months.proofs.numbering.leap_month.Reads as leap-month-reads
-use Rattle.months.proofs.numbering.no_sui.Reads as no-sui-reads
+use Rattle.months.proofs.inner.no_sui.Reads as no-sui-reads
 use Rattle.months.proofs.numbering.numbered.Reads as numbered-reads
 
 abbrev called : lts.Claims

@@ -2,30 +2,17 @@
 use Prim.Native.Nat.{ℕ, _+_, _≤_}
 use borrow.Author.Needs.{needs}
 use lib.ListN.{length, take, drop, length-append}
-use lib.Seq.{take-at, drop-at, drop-drop, length-take-le}
-use mathlib.Core.List.{List, _++_, append-assoc}
-use mathlib.Core.Path.{_≡_, sym, ap, ap₂, _∙_}
+use mathlib.Core.List.{List, _++_}
+use mathlib.Core.Path.{_≡_, ap, _∙_}
 use native.Mathlib.Omega.{arith}
+use Rattle.whole.specs.Lists.{placed, placed-both}
 use Rattle.text.proofs.inner.put_both.Statement.{statement}
 use Rattle.text.proofs.inner.put_both.Tie as tie
 
 -- what the room holds after both
-module _ (room head tail : List ℕ) (at : ℕ) (h : at + (length head + length tail) ≤ length room) where
-  front : length (take at room ++ head) ≡ at + length head
-  front = length-append (take at room) head ∙ ap (λ (n : ℕ). n + length head) (length-take-le at room (omega arith))
-
-  behind : drop (at + length head + length tail) (take at room ++ head ++ drop (at + length head) room) ≡ drop (at + (length head + length tail)) room
-  behind =
-      sym (drop-drop (length tail) (at + length head) (take at room ++ head ++ drop (at + length head) room))
-      ∙ ap (drop (length tail)) (drop-at (take at room ++ head) (drop (at + length head) room) (at + length head) front)
-      ∙ drop-drop (length tail) (at + length head) room
-      ∙ ap (λ (n : ℕ). drop n room) sum
-    where
-      sum : at + length head + length tail ≡ at + (length head + length tail)
-      sum = omega arith
-
-  twice : (first second : List ℕ) → first ≡ take at room ++ head ++ drop (at + length head) room → second ≡ take (at + length head) first ++ tail ++ drop (at + length head + length tail) first → second ≡ take at room ++ (head ++ tail) ++ drop (at + (length head + length tail)) room
-  twice first second p q = q ∙ rw p (ap₂ (λ (a b : List ℕ). a ++ tail ++ b) (take-at (take at room ++ head) (drop (at + length head) room) (at + length head) front) behind ∙ ap (λ (l : List ℕ). l ++ drop (at + (length head + length tail)) room) (append-assoc (take at room) head tail))
+twice : (room head tail first second : List ℕ) (at : ℕ) → at + (length head + length tail) ≤ length room → first ≡ placed at head room → second ≡ placed (at + length head) tail first → second ≡ take at room ++ (head ++ tail) ++ drop (at + (length head + length tail)) room
+twice room head tail first second at h p q =
+    q ∙ ap (placed (at + length head) tail) p ∙ placed-both room head at tail h ∙ ap (λ (n : ℕ). take at room ++ (head ++ tail) ++ drop (at + n) room) (length-append head tail)
 
 put-requires : tie.Need-put-requires
 put-requires c κs = search needs
@@ -45,7 +32,7 @@ same-length c = search needs
 returns : tie.Need-returns
 returns c =
     let s = c .before .before .before .before .before .before .before .before .before .before .before in
-    (omega arith, twice (s .args .room .now) (s .args .head .now) (s .args .tail .now) (s .args .at) (s .pre) _ _ (c .before .before .before .before .before .before .put .ensures) (c .before .before .put2 .ensures))
+    (omega arith, twice (s .args .room .now) (s .args .head .now) (s .args .tail .now) _ _ (s .args .at) (s .pre) (c .before .before .before .before .before .before .put .ensures) (c .before .before .put2 .ensures))
 
 pub put-both-spec : {M : Type 1} → statement M
 put-both-spec =
