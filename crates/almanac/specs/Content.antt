@@ -1,6 +1,6 @@
 -- What an almanac file holds (document 01, "Almanac file"): leap entries, suis and months, as the words of three lists; and which contents are lawful, rule by
 -- rule. Assumes nothing: these are definitions.
-use mathlib.Core.Bool.{Bool, _&&_, _||_}
+use mathlib.Core.Bool.{Bool, true, _&&_, _||_}
 use mathlib.Core.List.{List}
 use Prim.Native.Nat.{ℕ, zero, suc, _+_, _-_, _*_, _/_, _%_}
 use lib.Dec.{eqb, leb}
@@ -12,7 +12,7 @@ use Rattle.whole.specs.Below.{every}
 use Rattle.dates.specs.Answers.{hasDate}
 use Rattle.clock.specs.Leap.{leapLawful}
 use Rattle.months.specs.declared.Month.{Month}
-use Rattle.months.specs.Handles.{ordinal, handle}
+use Rattle.months.specs.Handles.{handleAt}
 
 -- leap entries: day and offset; suis: year and number of months; months: handle, first day and length
 pub record Content : Type 0 where
@@ -50,15 +50,12 @@ monthsBefore suis zero = 0
 monthsBefore suis (suc i) = monthsBefore suis i + natAbs (countAt suis i)
 
 -- ---- suis: years 1700 to 2500, rising by one; 12 or 13 months
-unfoldable pub goodYear : List ℤ → ℕ → Bool
-goodYear suis zero = inRange (pos 1700) (pos 2500) (yearAt suis zero)
-goodYear suis (suc i) = inRange (pos 1700) (pos 2500) (yearAt suis (suc i)) && isExactly (yearAt suis i +ℤ pos 1) (yearAt suis (suc i))
-
-unfoldable pub goodCount : ℤ → Bool
-goodCount count = inRange (pos 12) (pos 13) count
+unfoldable pub followsYear : List ℤ → ℕ → Bool
+followsYear suis zero = true
+followsYear suis (suc i) = isExactly (yearAt suis i +ℤ pos 1) (yearAt suis (suc i))
 
 unfoldable pub goodSui : List ℤ → ℕ → Bool
-goodSui suis i = goodYear suis i && goodCount (countAt suis i)
+goodSui suis i = inRange (pos 1700) (pos 2500) (yearAt suis i) && (followsYear suis i && inRange (pos 12) (pos 13) (countAt suis i))
 
 -- ---- handles: months number 11, 12, 1, .. 10; a leap month takes the number before it. A sui's months stand from month `from` on
 -- how many leap months stand before a place: the handle of one is odd
@@ -66,11 +63,12 @@ unfoldable pub leapsBefore : List ℤ → ℕ → ℕ → ℕ
 leapsBefore months from zero = 0
 leapsBefore months from (suc place) = leapsBefore months from place + floorMod (monthAt months (from + place) .handle) 2
 
--- an ordinary month has the number after the last ordinary one's; a leap month, in a sui of 13 that has had none and never first, the number before it
+-- an ordinary month has the number after the last ordinary one's; a leap month, in a sui of 13 that has had none and never first, the number before it.
+-- (`handleAt year leap place` is the handle at a place of a sui whose leap month is at place `leap`; at 13 it has none.)
 unfoldable pub goodHandle : ℤ → ℤ → ℕ → ℕ → ℤ → Bool
 goodHandle year count leaps place h =
-    isExactly (handle year (ordinal (place - leaps)) 0) h
-    || (isExactly (pos 13) count && (eqb leaps 0 && (leb 1 place && isExactly (handle year (ordinal (place - 1)) 1) h)))
+    isExactly (handleAt year 13 (place - leaps)) h
+    || (isExactly (pos 13) count && (eqb leaps 0 && (leb 1 place && isExactly (handleAt year place place) h)))
 
 -- ---- days: lengths 29 or 30, each month begins on the day after the one before it ends, and every day has a date
 unfoldable pub goodStart : List ℤ → ℕ → Bool

@@ -1,3 +1,4 @@
 pub mod FieldLaws
 pub mod Whole
 pub mod Rules
+pub mod Judged

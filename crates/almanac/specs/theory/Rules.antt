@@ -23,8 +23,9 @@ use Rattle.words.specs.Words.{half4}
 use Rattle.dates.specs.Answers.{hasDate}
 use Rattle.clock.specs.Leap.{leapLawful, wholePairs, goodEntry, entries, day, offset}
 use Rattle.clock.specs.theory.Table.{few, day-small, offset-small, offset-is, offset-first}
-use Rattle.months.specs.Handles.{ordinal, handle}
-use Rattle.almanac.specs.Content.{Content, entryCount, suiCount, monthCount, yearAt, countAt, monthAt, monthsBefore, goodYear, goodCount, goodSui, leapsBefore, goodHandle, goodStart, goodDays, goodMonth, goodMonths, goodSuiMonths, wholeSuis, lawful}
+use Rattle.months.specs.Handles.{numberAt, leapMark, handle, handleAt}
+use Rattle.months.specs.theory.Numbering.{number-small, mark-small}
+use Rattle.almanac.specs.Content.{Content, entryCount, suiCount, monthCount, yearAt, countAt, monthAt, monthsBefore, followsYear, goodSui, leapsBefore, goodHandle, goodStart, goodDays, goodMonth, goodMonths, goodSuiMonths, wholeSuis, lawful}
 use Rattle.almanac.specs.Fields.{Field, one-byte, unsigned, signed, times}
 use Rattle.almanac.specs.Layout.{entryFields, suiFields, monthFields}
 use Rattle.almanac.specs.theory.FieldLaws.{Counted, FitsField, Fit}
@@ -96,21 +97,18 @@ module _ (c : Content) (r : Rules c) where
   months-counted = ap (λ (n : ℕ). n / 3) (r .months-whole) ∙ mul-div-cancel-left (monthsBefore (c .suis) (suiCount c)) (omega arith)
 
   module _ (i : ℕ) (h : i < suiCount c) where
-    sui-parts : (goodYear (c .suis) i ≡ true) × (goodCount (countAt (c .suis) i) ≡ true)
+    sui-parts : (inRange (pos 1700) (pos 2500) (yearAt (c .suis) i) ≡ true) × ((followsYear (c .suis) i ≡ true) × (inRange (pos 12) (pos 13) (countAt (c .suis) i) ≡ true))
     unfolding goodSui
-    sui-parts = both (goodYear (c .suis) i) (goodCount (countAt (c .suis) i)) (r .sui i h)
+    sui-parts =
+        let a = both (inRange (pos 1700) (pos 2500) (yearAt (c .suis) i)) (followsYear (c .suis) i && inRange (pos 12) (pos 13) (countAt (c .suis) i)) (r .sui i h) in
+        let b = both (followsYear (c .suis) i) (inRange (pos 12) (pos 13) (countAt (c .suis) i)) (a .1) in
+        (a .0, (b .0, b .1))
 
     pub year-range : (pos 1700 ⩽ yearAt (c .suis) i) × (yearAt (c .suis) i ⩽ pos 2500)
-    unfolding goodYear
-    year-range = go i (sui-parts .0)
-      where
-        go : (i : ℕ) → goodYear (c .suis) i ≡ true → (pos 1700 ⩽ yearAt (c .suis) i) × (yearAt (c .suis) i ⩽ pos 2500)
-        go zero e = in-range-says (pos 1700) (pos 2500) (yearAt (c .suis) zero) e
-        go (suc i) e = in-range-says (pos 1700) (pos 2500) (yearAt (c .suis) (suc i)) (both (inRange (pos 1700) (pos 2500) (yearAt (c .suis) (suc i))) _ e .0)
+    year-range = in-range-says (pos 1700) (pos 2500) (yearAt (c .suis) i) (sui-parts .0)
 
     pub count-range : (pos 12 ⩽ countAt (c .suis) i) × (countAt (c .suis) i ⩽ pos 13)
-    unfolding goodCount
-    count-range = in-range-says (pos 12) (pos 13) (countAt (c .suis) i) (sui-parts .1)
+    count-range = in-range-says (pos 12) (pos 13) (countAt (c .suis) i) (sui-parts .1 .1)
 
     pub count-small : natAbs (countAt (c .suis) i) ≤ 13
     count-small = let ρ = countAt (c .suis) i ∷ [] in ⇑ ρ {A = natAbs (countAt (c .suis) i) ≤ 13} (search ring) (omega (arith, ⇓ ρ (count-range .0) (search ring), ⇓ ρ (count-range .1) (search ring)))
@@ -124,35 +122,35 @@ module _ (c : Content) (r : Rules c) where
       unfolding goodMonth
       month-parts = both _ _ (every-at (goodMonth (c .months) (yearAt (c .suis) i) (countAt (c .suis) i) (monthsBefore (c .suis) i)) (natAbs (countAt (c .suis) i)) (months-parts .0) place k)
 
-      handle-is : (monthAt (c .months) (monthsBefore (c .suis) i + place) .handle ≡ handle (yearAt (c .suis) i) (ordinal (place - leapsBefore (c .months) (monthsBefore (c .suis) i) place)) 0) ⊎ (monthAt (c .months) (monthsBefore (c .suis) i + place) .handle ≡ handle (yearAt (c .suis) i) (ordinal (place - 1)) 1)
+      handle-is : (monthAt (c .months) (monthsBefore (c .suis) i + place) .handle ≡ handleAt (yearAt (c .suis) i) 13 (place - leapsBefore (c .months) (monthsBefore (c .suis) i) place)) ⊎ (monthAt (c .months) (monthsBefore (c .suis) i + place) .handle ≡ handleAt (yearAt (c .suis) i) place place)
       unfolding goodHandle
       handle-is =
           let h = monthAt (c .months) (monthsBefore (c .suis) i + place) .handle in
-          let ordinary = handle (yearAt (c .suis) i) (ordinal (place - leapsBefore (c .months) (monthsBefore (c .suis) i) place)) 0 in
-          let leap = handle (yearAt (c .suis) i) (ordinal (place - 1)) 1 in
+          let leaps = leapsBefore (c .months) (monthsBefore (c .suis) i) place in
+          let ordinary = handleAt (yearAt (c .suis) i) 13 (place - leaps) in
+          let leap = handleAt (yearAt (c .suis) i) place place in
           ⊎-elim
           (λ (e : isExactly ordinary h ≡ true). inl (exactly-says ordinary h e))
-          (λ (e : (isExactly (pos 13) (countAt (c .suis) i) && (eqb (leapsBefore (c .months) (monthsBefore (c .suis) i) place) 0 && (leb 1 place && isExactly leap h))) ≡ true).
+          (λ (e : (isExactly (pos 13) (countAt (c .suis) i) && (eqb leaps 0 && (leb 1 place && isExactly leap h))) ≡ true).
           let a = both (isExactly (pos 13) (countAt (c .suis) i)) _ e in
-          let b = both (eqb (leapsBefore (c .months) (monthsBefore (c .suis) i) place) 0) _ (a .1) in
+          let b = both (eqb leaps 0) _ (a .1) in
           let d = both (leb 1 place) (isExactly leap h) (b .1) in
           inr (exactly-says leap h (d .1)))
           (one-of (isExactly ordinary h) _ (month-parts .0))
 
       pub handle-small : Counted 4294967296 (monthAt (c .months) (monthsBefore (c .suis) i + place) .handle)
-      handle-small =
-          ⊎-elim (λ e. small (ordinal (place - leapsBefore (c .months) (monthsBefore (c .suis) i) place)) 0 _ e (ordinal-small (place - leapsBefore (c .months) (monthsBefore (c .suis) i) place)) (omega arith)) (λ e. small (ordinal (place - 1)) 1 _ e (ordinal-small (place - 1)) (omega arith)) handle-is
+      handle-small = ⊎-elim (λ e. small 13 (place - leapsBefore (c .months) (monthsBefore (c .suis) i) place) _ e) (λ e. small place place _ e) handle-is
         where
-          ordinal-small : (p : ℕ) → ordinal p ≤ 12
-          ordinal-small p = omega (arith, mod-lt (p + 10) {m = 12} (omega arith))
-
-          small : (number mark : ℕ) (h : ℤ) → h ≡ handle (yearAt (c .suis) i) number mark → number ≤ 12 → mark ≤ 1 → Counted 4294967296 h
-          small number mark h e l m =
+          small : (leap p : ℕ) (h : ℤ) → h ≡ handleAt (yearAt (c .suis) i) leap p → Counted 4294967296 h
+          small leap p h e =
               let y = yearAt (c .suis) i in
-              let ρ = y ∷ pos (2 * number + mark) ∷ h ∷ [] in
+              let n = 2 * numberAt leap p + leapMark leap p in
+              let ρ = y ∷ pos n ∷ h ∷ [] in
               let low = ⇓ ρ (year-range .0) (search ring) in
               let high = ⇓ ρ (year-range .1) (search ring) in
-              let is : h ≡ pos 32 *ℤ y +ℤ pos (2 * number + mark) = e ∙ (unfold handle in refl) in
+              let number = number-small leap p in
+              let mark = mark-small leap p in
+              let is : h ≡ pos 32 *ℤ y +ℤ pos n = e ∙ (unfold handleAt handle in refl) in
               counted-in 4294967296 h (⇑ ρ (search ring depth 9) (omega (arith, ⇓ ρ is (search ring depth 9)))) (⇑ ρ (search ring depth 9) (omega (arith, ⇓ ρ is (search ring depth 9))))
 
       days-parts : (goodStart (c .months) (monthsBefore (c .suis) i + place) ≡ true) × ((inRange (pos 29) (pos 30) (monthAt (c .months) (monthsBefore (c .suis) i + place) .length) ≡ true) × (hasDate (monthAt (c .months) (monthsBefore (c .suis) i + place) .first +ℤ monthAt (c .months) (monthsBefore (c .suis) i + place) .length -ℤ pos 1) ≡ true))
