@@ -86,8 +86,8 @@ goodMonth months year count from place = goodHandle year count (leapsBefore mont
 unfoldable pub goodMonths : List ℤ → ℤ → ℤ → ℕ → Bool
 goodMonths months year count from = every (goodMonth months year count from) (natAbs count) && isExactly (pos (12 + leapsBefore months from (natAbs count))) count
 
-unfoldable pub goodSuiMonths : Content → ℕ → Bool
-goodSuiMonths c i = goodMonths (c .months) (yearAt (c .suis) i) (countAt (c .suis) i) (monthsBefore (c .suis) i)
+unfoldable pub goodSuiMonths : List ℤ → List ℤ → ℕ → Bool
+goodSuiMonths suis months i = goodMonths months (yearAt suis i) (countAt suis i) (monthsBefore suis i)
 
 -- ---- all of it
 -- 1 to 128 suis in whole records, by the number of words
@@ -100,4 +100,4 @@ lawful c =
     && (wholeSuis (length (c .suis))
     && (every (goodSui (c .suis)) (suiCount c)
     && (eqb (length (c .months)) (3 * monthsBefore (c .suis) (suiCount c))
-    && every (goodSuiMonths c) (suiCount c))))
+    && every (goodSuiMonths (c .suis) (c .months)) (suiCount c))))

@@ -1,4 +1,5 @@
 // Whether the words of three lists are a lawful content: suis, then months, one pass each. Sums are made only of numbers that were judged.
+use crate::suimonths::good_months;
 use whole::inner::add;
 use whole::inner::count;
 use whole::inner::in_range;
@@ -10,7 +11,7 @@ ghost use lib.ListN.{length};
 ghost use Rattle.whole.specs.Below.{every};
 ghost use Rattle.whole.specs.Ranges.{Within};
 ghost use Rattle.whole.specs.Tests.{isExactly};
-ghost use Rattle.almanac.specs.Content.{monthsBefore, wholeSuis, followsYear, goodSui};
+ghost use Rattle.almanac.specs.Content.{content, monthsBefore, wholeSuis, followsYear, goodSui, goodSuiMonths, lawful};
 ghost use Rattle.almanac.specs.theory.Judged.{YearsSmall};
 
 // 1 to 128 suis in whole records, by the number of words.
@@ -90,4 +91,47 @@ fn judge_suis(suis: &[i64]) -> SuisJudged
         i += 1;
     }
     SuisJudged { good: true, months }
+}
+
+// The months of every sui, one after another.
+fn judge_months(suis: &[i64], months: &[i64]) -> bool
+    requires { ⌜ length (now suis) ≤ 256 ⌝ }
+    requires { ⌜ every (goodSui (now suis)) (length (now suis) / 2) ≡ true ⌝ }
+    requires { ⌜ length (now months) ≡ 3 * monthsBefore (now suis) (length (now suis) / 2) ⌝ }
+    ensures { λ r. ⌜ r ≡ every (goodSuiMonths (now (suis .entry)) (now (months .entry))) (length (now (suis .entry)) / 2) ⌝ }
+{
+    let n = suis.len() / 2;
+    let mut i = 0;
+    let mut from = 0;
+    while i < n {
+        let year = suis[2 * i];
+        let size = suis[2 * i + 1];
+        if !good_months(months, year, size, from) {
+            return false;
+        }
+        from += count(size);
+        i += 1;
+    }
+    true
+}
+
+// Whether the words of three lists are a lawful content.
+pub fn is_lawful(leap: &[i64], suis: &[i64], months: &[i64]) -> bool
+    ensures { λ r. ⌜ r ≡ lawful (content (now (leap .entry)) (now (suis .entry)) (now (months .entry))) ⌝ }
+{
+    if !clock::inner::leap_lawful(leap) {
+        return false;
+    }
+    if !whole_suis(suis.len()) {
+        return false;
+    }
+    let judged = judge_suis(suis);
+    if !judged.good {
+        return false;
+    }
+    let size = 3 * judged.months;
+    if months.len() != size {
+        return false;
+    }
+    judge_months(suis, months)
 }

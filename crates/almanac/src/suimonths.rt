@@ -19,7 +19,7 @@ ghost use Rattle.whole.specs.Floor.{floorMod};
 ghost use Rattle.whole.specs.Ranges.{Within};
 ghost use Rattle.whole.specs.Tests.{isExactly};
 ghost use Rattle.months.specs.Handles.{handleAt};
-ghost use Rattle.almanac.specs.Content.{goodHandle, goodStart, goodDays};
+ghost use Rattle.almanac.specs.Content.{goodHandle, goodStart, goodDays, goodMonths};
 ghost use Rattle.almanac.specs.theory.Judged.{MonthsSmall};
 
 // Whether h is the handle at a place of a sui of this year whose leap month is at place `leap`.
@@ -90,4 +90,32 @@ fn good_days(months: &[i64], k: usize) -> bool
     }
     let behind = add(months[3 * k + 1], days);
     has_date(Day(subtract(behind, 1)))
+}
+
+// The months of a sui, which stand from month `from` on.
+pub fn good_months(words: &[i64], year: i64, months: i64, from: usize) -> bool
+    requires { ⌜ Within 2500 year ⌝ }
+    requires { ⌜ (pos 12 ≤ℤ months) × (months ≤ℤ pos 13) ⌝ }
+    requires { ⌜ 3 * (from + natAbs months) ≤ length (now words) ⌝ }
+    requires { ⌜ length (now words) ≤ 4992 ⌝ }
+    requires { ⌜ MonthsSmall (now words) from ⌝ }
+    ensures { λ r. ⌜ r ≡ goodMonths (now (words .entry)) year months from ⌝ }
+{
+    let n = count(months);
+    let mut place = 0;
+    let mut leaps = 0;
+    while place < n {
+        let k = from + place;
+        let handle = words[3 * k];
+        if !good_handle(year, months, leaps, place, handle) {
+            return false;
+        }
+        if !good_days(words, k) {
+            return false;
+        }
+        leaps += leap_of(handle);
+        place += 1;
+    }
+    let lawful = signed(12 + leaps);
+    in_range(lawful, lawful, months)
 }

@@ -1,21 +1,24 @@
 -- What the judge knows of the records before the one it looks at: their numbers are small enough for every sum. Assumes nothing.
-use mathlib.Core.Path.{_≡_, refl, ap}
+use mathlib.Core.Path.{_≡_, refl, sym, ap, _∙_}
 use mathlib.Core.Bool.{true, false, _&&_}
 use mathlib.Core.List.{List, [], _∷_}
-use Prim.Native.Nat.{ℕ, zero, suc, _+_, _*_, _-_, _/_, _≤_, _<_}
+use Prim.Native.Nat.{ℕ, zero, suc, _+_, _*_, _-_, _/_, _%_, _≤_, _<_}
 use native.Mathlib.Omega.{arith}
-use borrow.Author.Tests.{eq-eqb, ne-eqb, le-leb, lt-leb}
+use borrow.Author.Tests.{eq-eqb, ne-eqb, le-leb, lt-leb, leb-true}
+use lib.Dec.{eqb, leb}
 use lib.IntN.{ℤ, pos, negsuc, natAbs, _+ℤ_, _-ℤ_}
 use lib.ListN.{length, getD}
 use Rattle.whole.specs.Parts.{_⩽_}
 use Rattle.whole.specs.Solver.{⇑, ⇓, ring}
-use Rattle.whole.specs.Booleans.{both}
-use Rattle.whole.specs.Below.{every, every-none, every-next, every-true, every-at, below}
+use Rattle.whole.specs.Booleans.{both, first-fails, second-fails}
+use Rattle.whole.specs.Floor.{floorMod, floorMod-lt}
+use Rattle.whole.specs.Below.{every, every-none, every-next, every-true, every-false, every-at, below}
 use Rattle.whole.specs.Ranges.{Within}
 use Rattle.whole.specs.Tests.{inRange, isExactly, in-range-says, exactly-says}
 use Rattle.dates.specs.Answers.{hasDate}
 use Rattle.months.specs.Handles.{handleAt}
-use Rattle.almanac.specs.Content.{yearAt, countAt, monthAt, monthsBefore, followsYear, goodSui, goodHandle, goodStart, goodDays}
+use Rattle.clock.specs.Leap.{leapLawful}
+use Rattle.almanac.specs.Content.{content, yearAt, countAt, monthAt, monthsBefore, followsYear, goodSui, leapsBefore, goodHandle, goodStart, goodDays, goodMonth, goodMonths, goodSuiMonths, wholeSuis, lawful}
 
 -- the years before sui i
 pub record YearsSmall (suis : List ℤ) (i : ℕ) : Type 0 where
@@ -194,3 +197,126 @@ module _ (year count : ℤ) (leaps place : ℕ) (h : ℤ) where
       pub leap-decides : leaps ≤ 0 → 1 ≤ place → isExactly (handleAt year place place) h ≡ goodHandle year count leaps place h
       unfolding goodHandle
       leap-decides l f = let none : leaps ≡ 0 = omega arith in rw (other, thirteen, eq-eqb leaps 0 none, le-leb 1 place f)
+
+-- ---- the months of a sui, one after another
+module _ (months : List ℤ) (year count : ℤ) (from : ℕ) where
+  -- the first so many are good, and have so many leap months
+  pub record MonthsSoFar (place leaps : ℕ) : Type 0 where
+    pub few : place ≤ natAbs count
+    pub good : every (goodMonth months year count from) place ≡ true
+    pub counted : leaps ≡ leapsBefore months from place
+    pub at-most : leaps ≤ place
+    pub small : MonthsSmall months (from + place)
+
+  pub no-month-yet : MonthsSmall months from → MonthsSoFar 0 0
+  unfolding leapsBefore
+  no-month-yet s = record { few = omega arith; good = every-none (goodMonth months year count from); counted = refl; at-most = omega arith; small = let e : from + 0 ≡ from = omega arith in rw e s }
+
+  module _ (place leaps : ℕ) (s : MonthsSoFar place leaps) where
+    pub handle-bad : goodHandle year count leaps place (monthAt months (from + place) .handle) ≡ false → goodMonth months year count from place ≡ false
+    unfolding goodMonth
+    handle-bad e = rw (← s .counted, e)
+
+    pub days-bad : goodDays months (from + place) ≡ false → goodMonth months year count from place ≡ false
+    unfolding goodMonth
+    days-bad e = second-fails (goodHandle year count (leapsBefore months from place) place (monthAt months (from + place) .handle)) (goodDays months (from + place)) e
+
+    pub month-next : place < natAbs count → goodHandle year count leaps place (monthAt months (from + place) .handle) ≡ true → goodDays months (from + place) ≡ true → MonthsSoFar (place + 1) (leaps + floorMod (monthAt months (from + place) .handle) 2)
+    unfolding leapsBefore goodMonth
+    month-next h e f =
+        let one : place + 1 ≡ suc place = omega arith in
+        let on : from + suc place ≡ suc (from + place) = omega arith in
+        record {
+          few = omega arith;
+          good = every-next (goodMonth months year count from) place (s .good) (rw (← s .counted, e, f));
+          counted = rw one (omega (arith, s .counted));
+          at-most = omega (arith, s .at-most, floorMod-lt (monthAt months (from + place) .handle) 2 (omega arith));
+          small = rw (one, on) (month-more months (from + place) (s .small) f);
+        }
+
+  pub month-bad : (place : ℕ) → place < natAbs count → goodMonth months year count from place ≡ false → false ≡ goodMonths months year count from
+  unfolding goodMonths
+  month-bad place h e = sym (first-fails (every (goodMonth months year count from) (natAbs count)) _ (every-false (goodMonth months year count from) (natAbs count) place h e))
+
+  pub leaps-decide : (leaps : ℕ) → MonthsSoFar (natAbs count) leaps → isExactly (pos (12 + leaps)) count ≡ goodMonths months year count from
+  unfolding goodMonths
+  leaps-decide leaps s = rw (s .good, ← s .counted)
+
+  -- and once all are good, those behind them may be judged
+  pub months-known : MonthsSmall months from → goodMonths months year count from ≡ true → MonthsSmall months (from + natAbs count)
+  unfolding goodMonths goodMonth
+  months-known s e = go (natAbs count) (omega arith)
+    where
+      good : every (goodMonth months year count from) (natAbs count) ≡ true
+      good = both (every (goodMonth months year count from) (natAbs count)) _ e .0
+
+      days : (place : ℕ) → place < natAbs count → goodDays months (from + place) ≡ true
+      days place h = both (goodHandle year count (leapsBefore months from place) place (monthAt months (from + place) .handle)) (goodDays months (from + place)) (every-at (goodMonth months year count from) (natAbs count) good place h) .1
+
+      go : (n : ℕ) → n ≤ natAbs count → MonthsSmall months (from + n)
+      go zero l = let e : from + 0 ≡ from = omega arith in rw e s
+      go (suc n) l = let on : from + suc n ≡ suc (from + n) = omega arith in rw on (month-more months (from + n) (go n (omega arith)) (days n (omega arith)))
+
+-- ---- sui by sui
+module _ (suis months : List ℤ) where
+  pub record SuiMonthsSoFar (i from : ℕ) : Type 0 where
+    pub few : i ≤ length suis / 2
+    pub good : every (goodSuiMonths suis months) i ≡ true
+    pub counted : from ≡ monthsBefore suis i
+    pub small : MonthsSmall months from
+
+  pub none-judged-yet : SuiMonthsSoFar 0 0
+  unfolding monthsBefore
+  none-judged-yet = record { few = omega arith; good = every-none (goodSuiMonths suis months); counted = refl; small = record { first = λ j h. absurd (omega arith); length = λ j h. absurd (omega arith) } }
+
+  module _ (i from : ℕ) (s : SuiMonthsSoFar i from) where
+    pub sui-judged : goodMonths months (yearAt suis i) (countAt suis i) from ≡ goodSuiMonths suis months i
+    unfolding goodSuiMonths
+    sui-judged = ap (goodMonths months (yearAt suis i) (countAt suis i)) (s .counted)
+
+    pub next-sui : (n : ℕ) → i < length suis / 2 → goodMonths months (yearAt suis i) (countAt suis i) from ≡ true → pos n ≡ countAt suis i → SuiMonthsSoFar (i + 1) (from + n)
+    unfolding monthsBefore
+    next-sui n h e p =
+        let one : i + 1 ≡ suc i = omega arith in
+        let size : n ≡ natAbs (countAt suis i) = ap natAbs p in
+        record {
+          few = omega arith;
+          good = every-next (goodSuiMonths suis months) i (s .good) (sym sui-judged ∙ e);
+          counted = rw one (omega (arith, s .counted, size));
+          small = rw size (months-known months (yearAt suis i) (countAt suis i) from (s .small) e);
+        }
+
+-- the months of the suis up to sui i are among all
+pub months-before-rise : (suis : List ℤ) (i n : ℕ) → i ≤ n → monthsBefore suis i ≤ monthsBefore suis n
+unfolding monthsBefore
+months-before-rise suis i zero h = let e : i ≡ 0 = omega arith in rw e (omega arith)
+months-before-rise suis i (suc n) h = below i (suc n) (omega arith) (λ l. omega (arith, months-before-rise suis i n (omega arith))) (λ e. rw e (omega arith))
+
+-- ---- the whole content, rule after rule
+module _ (leap suis months : List ℤ) where
+  pub leap-broken : leapLawful leap ≡ false → false ≡ lawful (content leap suis months)
+  unfolding lawful
+  leap-broken e = rw e
+
+  module _ (table : leapLawful leap ≡ true) where
+    pub suis-broken : wholeSuis (length suis) ≡ false → false ≡ lawful (content leap suis months)
+    unfolding lawful
+    suis-broken e = rw (table, e)
+
+    module _ (whole : wholeSuis (length suis) ≡ true) where
+      pub sui-broken : every (goodSui suis) (length suis / 2) ≡ false → false ≡ lawful (content leap suis months)
+      unfolding lawful
+      sui-broken e = rw (table, whole, e)
+
+      module _ (good : every (goodSui suis) (length suis / 2) ≡ true) where
+        pub months-left-over : (length months ≡ 3 * monthsBefore suis (length suis / 2) → ⊥) → false ≡ lawful (content leap suis months)
+        unfolding lawful
+        months-left-over e = rw (table, whole, good, ne-eqb (length months) (3 * monthsBefore suis (length suis / 2)) e)
+
+        pub months-decide : length months ≡ 3 * monthsBefore suis (length suis / 2) → every (goodSuiMonths suis months) (length suis / 2) ≡ lawful (content leap suis months)
+        unfolding lawful
+        months-decide e = rw (table, whole, good, eq-eqb (length months) (3 * monthsBefore suis (length suis / 2)) e)
+
+  pub whole-few : wholeSuis (length suis) ≡ true → length suis ≤ 256
+  unfolding wholeSuis
+  whole-few e = leb-true _ _ (both (leb 2 (length suis)) (leb (length suis) 256) (both (eqb (length suis % 2) 0) _ e .1) .1)

@@ -51,7 +51,7 @@ pub record Rules (c : Content) : Type 0 where
   pub suis-whole : wholeSuis (length (c .suis)) ≡ true
   pub sui : (i : ℕ) → i < suiCount c → goodSui (c .suis) i ≡ true
   pub months-whole : length (c .months) ≡ 3 * monthsBefore (c .suis) (suiCount c)
-  pub months : (i : ℕ) → i < suiCount c → goodSuiMonths c i ≡ true
+  pub months : (i : ℕ) → i < suiCount c → goodSuiMonths (c .suis) (c .months) i ≡ true
 
 pub rules : (c : Content) → lawful c ≡ true → Rules c
 unfolding lawful
@@ -59,13 +59,13 @@ rules c e =
     let r₁ = both (leapLawful (c .leap)) _ e in
     let r₂ = both (wholeSuis (length (c .suis))) _ (r₁ .1) in
     let r₃ = both (every (goodSui (c .suis)) (suiCount c)) _ (r₂ .1) in
-    let r₄ = both (eqb (length (c .months)) (3 * monthsBefore (c .suis) (suiCount c))) (every (goodSuiMonths c) (suiCount c)) (r₃ .1) in
+    let r₄ = both (eqb (length (c .months)) (3 * monthsBefore (c .suis) (suiCount c))) (every (goodSuiMonths (c .suis) (c .months)) (suiCount c)) (r₃ .1) in
     record {
       table = r₁ .0;
       suis-whole = r₂ .0;
       sui = every-at (goodSui (c .suis)) (suiCount c) (r₃ .0);
       months-whole = eqb-true _ _ (r₄ .0);
-      months = every-at (goodSuiMonths c) (suiCount c) (r₄ .1);
+      months = every-at (goodSuiMonths (c .suis) (c .months)) (suiCount c) (r₄ .1);
     }
 
 -- ---- what they say of each record
