@@ -1,5 +1,6 @@
 pub mod Content
 pub mod Fields
 pub mod Layout
+pub mod Answers
 pub mod theory
 pub mod Theorems

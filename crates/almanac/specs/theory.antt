@@ -2,3 +2,5 @@ pub mod FieldLaws
 pub mod Whole
 pub mod Rules
 pub mod Judged
+pub mod Counting
+pub mod Sections

@@ -1,6 +1,9 @@
-// The almanac file (document 01, "Almanac file"). Its layout, its rules and their theorems are in `specs/`.
+// The almanac file: checked, read and written (document 01, "Almanac file").
+use refusals::Refusal;
 
 mod judging;
+mod layout;
+mod reading;
 mod suimonths;
 
 // How many leap entries, suis and months a file has.
@@ -8,4 +11,9 @@ pub struct Counts {
     pub entries: usize,
     pub suis: usize,
     pub months: usize,
+}
+
+pub enum FileAnswer {
+    File(Counts),
+    Refused(Refusal),
 }

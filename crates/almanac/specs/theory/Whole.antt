@@ -16,6 +16,7 @@ use Rattle.words.specs.Theorems.{Bytes, unsigned-written-back, unsigned-read-ba
 use Rattle.almanac.specs.declared.Counts.{Counts}
 use Rattle.almanac.specs.Content.{Content, content, entryCount, suiCount, monthCount}
 use Rattle.almanac.specs.Fields.{Field, times, widths, numbersIn, bytesFor}
+use Rattle.almanac.specs.Answers.{countsIn}
 use Rattle.almanac.specs.Layout.{entryFields, suiFields, monthFields, bytesOf, suisAt, monthsAt, endAt, countsOf, contentAt, contentOf}
 use Rattle.almanac.specs.theory.FieldLaws.{Fit, bytes-written-back, numbers-read-back, numbers-length, bytes-length, fit-length, widths-times, length-times, take-more}
 
@@ -118,9 +119,6 @@ pub record FitsLayout (c : Content) : Type 0 where
   pub few-entries : entryCount c < 4294967296
   pub few-suis : suiCount c < 4294967296
   pub few-months : monthCount c < 4294967296
-
-abbrev pub countsIn : Content → Counts
-countsIn c = record { entries = entryCount c; suis = suiCount c; months = monthCount c }
 
 pos-same : {m n : ℕ} → pos m ≡ pos n → m ≡ n
 pos-same e = cc

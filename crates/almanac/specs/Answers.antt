@@ -1,0 +1,26 @@
+-- What the entry points of this crate answer, on paper, and what each lent place holds afterwards: 13 for a file, or lists to be written, that break their rules, then 12
+-- where lent room has fewer places than the whole answer fills. Assumes nothing: these are definitions.
+use mathlib.Core.Bool.{Bool, not, _||_}
+use mathlib.Core.List.{List, [], _∷_, _++_}
+use Prim.Native.Nat.{ℕ}
+use lib.Dec.{ltb}
+use lib.IntN.{ℤ}
+use lib.ListN.{length, drop}
+use Rattle.refusals.specs.Verdict.{Verdict, answered, refused, refusal, refuseWhen, _before_, _then_}
+use Rattle.almanac.specs.declared.Counts.{Counts}
+use Rattle.almanac.specs.declared.FileAnswer.{FileAnswer}
+use Rattle.almanac.specs.declared.FileAnswer.the-variants as file-answer
+use Rattle.almanac.specs.Content.{Content, entryCount, suiCount, monthCount, lawful}
+use Rattle.almanac.specs.Layout.{bytesOf, fileOf}
+
+abbrev pub paperFile : FileAnswer → Verdict Counts
+paperFile (file-answer.File n) = answered n
+paperFile (file-answer.Refused r) = refusal r
+
+-- the three counts of a content
+abbrev pub countsIn : Content → Counts
+countsIn c = record { entries = entryCount c; suis = suiCount c; months = monthCount c }
+
+-- ---- check a file
+unfoldable pub checkedFile : List ℕ → Verdict Counts
+checkedFile file = fileOf file then (λ c. answered (countsIn c))
