@@ -4,3 +4,4 @@ pub mod Rules
 pub mod Judged
 pub mod Counting
 pub mod Sections
+pub mod Checked

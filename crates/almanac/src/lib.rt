@@ -1,6 +1,7 @@
 // The almanac file: checked, read and written (document 01, "Almanac file").
 use refusals::Refusal;
 
+mod checking;
 mod judging;
 mod layout;
 mod reading;
