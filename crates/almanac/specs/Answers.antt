@@ -24,3 +24,21 @@ countsIn c = record { entries = entryCount c; suis = suiCount c; months = monthC
 -- ---- check a file
 unfoldable pub checkedFile : List ℕ → Verdict Counts
 checkedFile file = fileOf file then (λ c. answered (countsIn c))
+
+-- ---- read a file into lent words
+-- 12 where any of the three lent places is too short for its list
+abbrev pub tooShort : Content → ℕ → ℕ → ℕ → Bool
+tooShort c leap suis months = ltb leap (length (c .leap)) || (ltb suis (length (c .suis)) || ltb months (length (c .months)))
+
+unfoldable pub contentRead : List ℕ → ℕ → ℕ → ℕ → Verdict Content
+contentRead file leap suis months = fileOf file then (λ c. refuseWhen (tooShort c leap suis months) 12 before answered c)
+
+unfoldable pub readFile : List ℕ → ℕ → ℕ → ℕ → Verdict Counts
+readFile file leap suis months = contentRead file leap suis months then (λ c. answered (countsIn c))
+
+-- ---- write a content into a lent file
+unfoldable pub bytesToWrite : Content → ℕ → Verdict (List ℕ)
+bytesToWrite c room = refuseWhen (not (lawful c)) 13 before refuseWhen (ltb room (length (bytesOf c))) 12 before answered (bytesOf c)
+
+unfoldable pub writtenFile : Content → ℕ → Verdict ℕ
+writtenFile c room = bytesToWrite c room then (λ bytes. answered (length bytes))

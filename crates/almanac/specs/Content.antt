@@ -23,6 +23,15 @@ pub record Content : Type 0 where
 abbrev pub content : List ℤ → List ℤ → List ℤ → Content
 content leap suis months = record { leap = leap; suis = suis; months = months }
 
+abbrev pub leap-words : Content → List ℤ
+leap-words c = c .leap
+
+abbrev pub sui-words : Content → List ℤ
+sui-words c = c .suis
+
+abbrev pub month-words : Content → List ℤ
+month-words c = c .months
+
 -- ---- the records
 abbrev pub entryCount : Content → ℕ
 entryCount c = length (c .leap) / 2

@@ -5,3 +5,4 @@ pub mod Judged
 pub mod Counting
 pub mod Sections
 pub mod Checked
+pub mod Reader

@@ -39,13 +39,13 @@ module _ (file : List ℕ) (n : Counts) where
   unfolding contentAt
   months-of = section-words (n .months) monthFields file (monthsAt (n .entries) (n .suis) + 4)
 
-  entry-count : entryCount (contentAt file n) ≡ n .entries
+  pub entry-count : entryCount (contentAt file n) ≡ n .entries
   entry-count = ap (λ (k : ℕ). k / 2) entries-of ∙ mul-div-cancel-left (n .entries) (omega arith)
 
-  sui-count : suiCount (contentAt file n) ≡ n .suis
+  pub sui-count : suiCount (contentAt file n) ≡ n .suis
   sui-count = ap (λ (k : ℕ). k / 2) suis-of ∙ mul-div-cancel-left (n .suis) (omega arith)
 
-  month-count : monthCount (contentAt file n) ≡ n .months
+  pub month-count : monthCount (contentAt file n) ≡ n .months
   month-count = ap (λ (k : ℕ). k / 3) months-of ∙ mul-div-cancel-left (n .months) (omega arith)
 
   pub same-counts : countsIn (contentAt file n) ≡ n
