@@ -11,6 +11,7 @@ mod judging;
 mod layout;
 mod reading;
 mod suimonths;
+mod writing;
 
 // How many leap entries, suis and months a file has.
 pub struct Counts {

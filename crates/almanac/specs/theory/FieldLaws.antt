@@ -30,7 +30,7 @@ Fit (f ∷ fields) [] = ⊥
 Fit (f ∷ fields) (z ∷ numbers) = FitsField f z × Fit fields numbers
 
 -- ---- one field
-written-width : (f : Field) (z : ℤ) → length (written f z) ≡ width f
+pub written-width : (f : Field) (z : ℤ) → length (written f z) ≡ width f
 written-width one-byte z = refl
 written-width unsigned z = refl
 written-width signed z = refl
@@ -60,14 +60,14 @@ numbers-read-back (f ∷ fields) (z ∷ numbers) h p s =
     (ap (λ (l : List ℕ). read f l (length p)) here ∙ read-back f z (h .0) p (r ++ s))
     (ap₂ (λ (l : List ℕ) (n : ℕ). numbersIn fields l n) behind at ∙ numbers-read-back fields numbers (h .1) (p ++ a) s)
 
-pub take-more : (m n : ℕ) (l : List ℕ) → take m l ++ take n (drop m l) ≡ take (m + n) l
+pub take-more : {A : Type 0} (m n : ℕ) (l : List A) → take m l ++ take n (drop m l) ≡ take (m + n) l
 take-more zero n l = ap (λ (k : ℕ). take k l) (sym (zero-add n))
-take-more (suc m) n [] = nothing n ∙ sym (nothing (suc m + n))
+take-more {A} (suc m) n [] = nothing n ∙ sym (nothing (suc m + n))
   where
-    nothing : (n : ℕ) → take {A = ℕ} n [] ≡ []
+    nothing : (n : ℕ) → take {A = A} n [] ≡ []
     nothing zero = refl
     nothing (suc n) = refl
-take-more (suc m) n (x ∷ l) = let e : suc m + n ≡ suc (m + n) = omega arith in rw e (ap (λ (t : List ℕ). x ∷ t) (take-more m n l))
+take-more {A} (suc m) n (x ∷ l) = let e : suc m + n ≡ suc (m + n) = omega arith in rw e (ap (λ (t : List A). x ∷ t) (take-more m n l))
 
 pub bytes-written-back : (fields : List Field) (file : List ℕ) → Bytes file → (at : ℕ) → at + widths fields ≤ length file → bytesFor fields (numbersIn fields file at) ≡ take (widths fields) (drop at file)
 unfolding numbersIn bytesFor widths
