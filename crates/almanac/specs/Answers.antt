@@ -10,12 +10,18 @@ use Rattle.refusals.specs.Verdict.{Verdict, answered, refused, refusal, refuseW
 use Rattle.almanac.specs.declared.Counts.{Counts}
 use Rattle.almanac.specs.declared.FileAnswer.{FileAnswer}
 use Rattle.almanac.specs.declared.FileAnswer.the-variants as file-answer
+use Rattle.almanac.specs.declared.WriteAnswer.{WriteAnswer}
+use Rattle.almanac.specs.declared.WriteAnswer.the-variants as write-answer
 use Rattle.almanac.specs.Content.{Content, entryCount, suiCount, monthCount, lawful}
 use Rattle.almanac.specs.Layout.{bytesOf, fileOf}
 
 abbrev pub paperFile : FileAnswer → Verdict Counts
 paperFile (file-answer.File n) = answered n
 paperFile (file-answer.Refused r) = refusal r
+
+abbrev pub paperWritten : WriteAnswer → Verdict ℕ
+paperWritten (write-answer.Written bytes) = answered bytes
+paperWritten (write-answer.Refused r) = refusal r
 
 -- the three counts of a content
 abbrev pub countsIn : Content → Counts
@@ -39,6 +45,9 @@ readFile file leap suis months = contentRead file leap suis months then (λ c. a
 -- ---- write a content into a lent file
 unfoldable pub bytesToWrite : Content → ℕ → Verdict (List ℕ)
 bytesToWrite c room = refuseWhen (not (lawful c)) 13 before refuseWhen (ltb room (length (bytesOf c))) 12 before answered (bytesOf c)
+
+abbrev pub all-bytes : List ℕ → List ℕ
+all-bytes bytes = bytes
 
 unfoldable pub writtenFile : Content → ℕ → Verdict ℕ
 writtenFile c room = bytesToWrite c room then (λ bytes. answered (length bytes))

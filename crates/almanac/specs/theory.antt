@@ -6,3 +6,4 @@ pub mod Counting
 pub mod Sections
 pub mod Checked
 pub mod Reader
+pub mod Writer

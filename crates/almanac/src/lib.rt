@@ -3,8 +3,8 @@ use refusals::Refusal;
 ghost use mathlib.Core.Path.{_≡_};
 ghost use lib.ListN.{length};
 ghost use Rattle.refusals.specs.Lent.{writtenInto};
-ghost use Rattle.almanac.specs.Content.{leap-words, sui-words, month-words};
-ghost use Rattle.almanac.specs.Answers.{paperFile, checkedFile, contentRead, readFile};
+ghost use Rattle.almanac.specs.Content.{content, leap-words, sui-words, month-words};
+ghost use Rattle.almanac.specs.Answers.{paperFile, paperWritten, checkedFile, contentRead, readFile, bytesToWrite, all-bytes, writtenFile};
 
 mod checking;
 mod judging;
@@ -22,6 +22,11 @@ pub struct Counts {
 
 pub enum FileAnswer {
     File(Counts),
+    Refused(Refusal),
+}
+
+pub enum WriteAnswer {
+    Written(usize),
     Refused(Refusal),
 }
 
@@ -66,4 +71,21 @@ pub fn read_file(file: &[u8], leap: &mut [i64], suis: &mut [i64], months: &mut [
             FileAnswer::File(n)
         }
     }
+}
+
+// Writes a content into a lent file and says how many bytes it took; 13 unless the content is lawful, then 12 where the file is too short.
+pub fn write_file(leap: &[i64], suis: &[i64], months: &[i64], file: &mut [u8]) -> WriteAnswer
+    ensures { λ r. ⌜ paperWritten r ≡ writtenFile (content (now (leap .entry)) (now (suis .entry)) (now (months .entry))) (length (now (file .entry))) ⌝ }
+    ensures { λ r. ⌜ now (file .exit) ≡ writtenInto (bytesToWrite (content (now (leap .entry)) (now (suis .entry)) (now (months .entry))) (length (now (file .entry)))) all-bytes (now (file .entry)) ⌝ }
+{
+    if !judging::is_lawful(leap, suis, months) {
+        return WriteAnswer::Refused(refusals::LAYOUT);
+    }
+    let third = 8 + 8 * (leap.len() / 2) + 5 * (suis.len() / 2);
+    let end = third + 4 + 9 * (months.len() / 3);
+    if file.len() < end {
+        return WriteAnswer::Refused(refusals::ROOM);
+    }
+    writing::put_content(leap, suis, months, file);
+    WriteAnswer::Written(end)
 }

@@ -123,6 +123,9 @@ pub record FitsLayout (c : Content) : Type 0 where
 pos-same : {m n : ℕ} → pos m ≡ pos n → m ≡ n
 pos-same e = cc
 
+pub section-length : (m : ℕ) (fields : List Field) (numbers : List ℤ) → Fit (times m fields) numbers → length (bytesFor (times m fields) numbers) ≡ widths fields * m
+section-length m fields numbers h = bytes-length (times m fields) numbers (fit-length (times m fields) numbers h) ∙ widths-times m fields
+
 module _ (c : Content) (f : FitsLayout c) where
   abbrev a : List ℕ
   a = bytes4 (pos (entryCount c))
@@ -145,9 +148,6 @@ module _ (c : Content) (f : FitsLayout c) where
   abbrev file : List ℕ
   file = a ++ A ++ (b ++ B) ++ (d ++ D)
 
-  section-length : (m : ℕ) (fields : List Field) (numbers : List ℤ) → Fit (times m fields) numbers → length (bytesFor (times m fields) numbers) ≡ widths fields * m
-  section-length m fields numbers h = bytes-length (times m fields) numbers (fit-length (times m fields) numbers h) ∙ widths-times m fields
-
   A-length : length A ≡ 8 * entryCount c
   unfolding widths
   A-length = section-length (entryCount c) entryFields (c .leap) (f .entries-fit)
@@ -161,13 +161,13 @@ module _ (c : Content) (f : FitsLayout c) where
   D-length = section-length (monthCount c) monthFields (c .months) (f .months-fit)
 
   -- where each part stands
-  suis-stand : length (a ++ A) ≡ suisAt (entryCount c)
+  pub suis-stand : length (a ++ A) ≡ suisAt (entryCount c)
   suis-stand = length-append a A ∙ omega (arith, A-length)
 
-  months-stand : length (a ++ A ++ (b ++ B)) ≡ monthsAt (entryCount c) (suiCount c)
+  pub months-stand : length (a ++ A ++ (b ++ B)) ≡ monthsAt (entryCount c) (suiCount c)
   months-stand = length-append (a ++ A) (b ++ B) ∙ omega (arith, suis-stand, length-append b B, B-length)
 
-  file-ends : length file ≡ endAt (entryCount c) (suiCount c) (monthCount c)
+  pub file-ends : length file ≡ endAt (entryCount c) (suiCount c) (monthCount c)
   file-ends = length-append (a ++ A ++ (b ++ B)) (d ++ D) ∙ omega (arith, months-stand, length-append d D, D-length)
 
   -- the counts
