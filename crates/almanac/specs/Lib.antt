@@ -4,3 +4,5 @@ pub mod Layout
 pub mod Answers
 pub mod theory
 pub mod Theorems
+pub mod OneResult
+pub mod Examples
