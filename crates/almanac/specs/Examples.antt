@@ -79,7 +79,12 @@ examples =
     ∷ not (lawful (two (pos 2002) (pos 64064) (pos 11353)))
     -- 12 months and no leap, or 13 and one leap, never first
     ∷ lawful (one (pos 2001) (pos 13) (months (pos 11000) (leapEleven (pos 64032))))
-    ∷ not (lawful (one (pos 2001) (pos 13) (months (pos 11000) ((pos 64055) ∷ pos 29 ∷ twelve (pos 64032) (pos 29)))))
+    -- (first with the number 11, with the number before it, and as a month of the sui before)
+    ∷ not (lawful (one (pos 2001) (pos 13) (months (pos 11000) (pos 64055 ∷ pos 29 ∷ twelve (pos 64032) (pos 29)))))
+    ∷ not (lawful (one (pos 2001) (pos 13) (months (pos 11000) (pos 64053 ∷ pos 29 ∷ twelve (pos 64032) (pos 29)))))
+    ∷ not (lawful (one (pos 2001) (pos 13) (months (pos 11000) (pos 64021 ∷ pos 29 ∷ twelve (pos 64032) (pos 29)))))
+    -- (two leap months, 11 and 12, in a sui of 13)
+    ∷ not (lawful (one (pos 2001) (pos 13) (months (pos 11000) (pos 64054 ∷ pos 30 ∷ pos 64055 ∷ pos 29 ∷ pos 64056 ∷ pos 30 ∷ pos 64057 ∷ pos 29 ∷ pos 64034 ∷ pos 30 ∷ pos 64036 ∷ pos 29 ∷ pos 64038 ∷ pos 30 ∷ pos 64040 ∷ pos 29 ∷ pos 64042 ∷ pos 30 ∷ pos 64044 ∷ pos 29 ∷ pos 64046 ∷ pos 30 ∷ pos 64048 ∷ pos 29 ∷ pos 64050 ∷ pos 30 ∷ []))))
     ∷ not (lawful (one (pos 2001) (pos 12) (months (pos 11000) ((pos 64054) ∷ pos 29 ∷ (pos 64055) ∷ pos 30 ∷ afterEleven (pos 64032)))))
     ∷ not (lawful (one (pos 2001) (pos 13) (months (pos 11000) (twelve (pos 64032) (pos 29) ++ (pos 64054 ∷ pos 29 ∷ [])))))
     ∷ not (lawful (one (pos 2001) (pos 11) (months (pos 11000) ((pos 64054) ∷ pos 30 ∷ afterEleven (pos 64032)))))

@@ -1,9 +1,9 @@
 // Whether the content that stands in a file is lawful: its sections are read into words of this crate's own, and those are judged.
+use crate::Counts;
 use crate::judging::is_lawful;
 use crate::reading::read_entries;
 use crate::reading::read_months;
 use crate::reading::read_suis;
-use crate::Counts;
 ghost use mathlib.Core.Path.{_≡_};
 ghost use Prim.Native.Nat.{_≤_};
 ghost use lib.ListN.{length};

@@ -1,7 +1,7 @@
 // Writing a section of a file from the words of its list. Callers show that the numbers fit their fields, and the room.
 use whole::inner::signed;
-use words::inner::put4;
 use words::inner::put_byte;
+use words::inner::put4;
 ghost use mathlib.Core.Path.{_≡_};
 ghost use mathlib.Core.List.{[], _∷_, _++_};
 ghost use Prim.Native.Nat.{_+_, _*_, _/_, _≤_, _<_};
@@ -84,7 +84,13 @@ fn put_months(months: &[i64], n: usize, out: &mut [u8], at: usize)
 {
     let mut i = 0;
     while i < n {
-        put_month(out, at + 9 * i, months[3 * i], months[3 * i + 1], months[3 * i + 2]);
+        put_month(
+            out,
+            at + 9 * i,
+            months[3 * i],
+            months[3 * i + 1],
+            months[3 * i + 2],
+        );
         i += 1;
     }
 }
