@@ -1,3 +1,4 @@
 pub mod Verdict
 pub mod Search
 pub mod Evaluated
+pub mod Lent

@@ -21,8 +21,8 @@ fn wide(x: u8) -> u64
     x as u64
 }
 
-// The 32 bits at `at`.
-fn pattern(src: &[u8], at: usize) -> u64
+// The 32 bits at `at`, as a count.
+pub fn pattern(src: &[u8], at: usize) -> u64
     requires { ⌜ at + 4 ≤ length (now src) ⌝ }
     ensures { λ r. ⌜ (r ≡ pattern4 (now (src .entry)) at) × (r < 4294967296) ⌝ }
 {

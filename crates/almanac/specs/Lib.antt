@@ -1,0 +1,8 @@
+pub mod Content
+pub mod Fields
+pub mod Layout
+pub mod Answers
+pub mod theory
+pub mod Theorems
+pub mod OneResult
+pub mod Examples
