@@ -10,7 +10,7 @@ ghost use lib.ListN.{length, getD};
 ghost use Rattle.series.specs.Bodies.{numbers};
 ghost use Rattle.series.specs.Series.{series};
 ghost use Rattle.marks.specs.Answers.{noMark};
-ghost use Rattle.marks.specs.Listed.{listedMarks};
+ghost use Rattle.marks.specs.Listed.{firstReached, listedMarks};
 ghost use Rattle.inputs.specs.Known.{Ready};
 ghost use Rattle.listing.specs.Listing.{letter, lineOf};
 ghost use Rattle.listing.specs.Lines.{momentOf, lineText};
@@ -55,13 +55,21 @@ fn moment_of(t: ShownTime) -> Moment
     }
 }
 
-// The k-th line.
-pub fn line_of(body: Body, leap: &[i64], start: Second, coefs: &[i64], k: usize) -> Line
+// The k-th line, given the first second's mark.
+pub fn line_of(
+    body: Body,
+    leap: &[i64],
+    start: Second,
+    coefs: &[i64],
+    lowest: i64,
+    k: usize,
+) -> Line
     requires { ⌜ Ready (now leap) (series body (start .0) (now coefs)) ⌝ }
+    requires { ⌜ lowest ≡ firstReached (series body (start .0) (now coefs)) ⌝ }
     requires { ⌜ k < length (listedMarks (series body (start .0) (now coefs))) ⌝ }
     ensures { λ r. ⌜ lineText r ≡ lineOf body (now (leap .entry)) (getD (listedMarks (series body (start .0) (now (coefs .entry)))) k noMark) ⌝ }
 {
-    let mark = marks::inner::nth_mark(body, start, coefs, k);
+    let mark = marks::inner::nth_after(body, start, coefs, lowest, k);
     let second = mark.second;
     let shown = clock::inner::shown_in(leap, second, 480);
     let turn = whole::inner::floor_mod(mark.index, circle_of(body));

@@ -15,9 +15,9 @@ ghost use Rattle.inputs.specs.Known.{Known};
 ghost use Rattle.listing.specs.Listing.{linesOf, listed, listedWords, printed};
 ghost use Prim.Native.Nat.{_+_, _<_, _≤_};
 ghost use lib.ListN.{length, getD};
-ghost use Rattle.series.specs.declared.Body.the-variants.{Sun};
+ghost use Rattle.series.specs.declared.Body.the-variants.{Sun, Moon};
 ghost use Rattle.series.specs.Series.{series};
-ghost use Rattle.marks.specs.Listed.{listedMarks};
+ghost use Rattle.marks.specs.Listed.{firstReached, listedMarks};
 ghost use Rattle.listing.specs.Layout.{inputsAt};
 ghost use Rattle.listing.specs.Lines.{lineText};
 ghost use Rattle.listing.specs.Parts.{partAnswer, partHeld};
@@ -29,18 +29,22 @@ fn line_at(
     sun: &[i64],
     moonstart: Second,
     moon: &[i64],
+    sunlowest: i64,
+    moonlowest: i64,
     suns: usize,
     i: usize,
 ) -> Line
     requires { ⌜ Known (inputs (now leap) (sunstart .0) (now sun) (moonstart .0) (now moon)) ⌝ }
+    requires { ⌜ sunlowest ≡ firstReached (series Sun (sunstart .0) (now sun)) ⌝ }
+    requires { ⌜ moonlowest ≡ firstReached (series Moon (moonstart .0) (now moon)) ⌝ }
     requires { ⌜ suns ≡ length (listedMarks (series Sun (sunstart .0) (now sun))) ⌝ }
     requires { ⌜ i < length (linesOf (inputs (now leap) (sunstart .0) (now sun) (moonstart .0) (now moon))) ⌝ }
     ensures { λ r. ⌜ lineText r ≡ getD (linesOf (inputs (now (leap .entry)) (sunstart .0) (now (sun .entry)) (moonstart .0) (now (moon .entry)))) i [] ⌝ }
 {
     if i < suns {
-        return lines::line_of(Body::Sun, leap, sunstart, sun, i);
+        return lines::line_of(Body::Sun, leap, sunstart, sun, sunlowest, i);
     }
-    lines::line_of(Body::Moon, leap, moonstart, moon, i - suns)
+    lines::line_of(Body::Moon, leap, moonstart, moon, moonlowest, i - suns)
 }
 
 // The lines from `from` on that fit the room.
@@ -59,11 +63,23 @@ pub fn put_lines(
 {
     let suns = marks::inner::count(Body::Sun, sunstart, sun);
     let moons = marks::inner::count(Body::Moon, moonstart, moon);
+    let sunlowest = marks::inner::first_reached(Body::Sun, sunstart, sun);
+    let moonlowest = marks::inner::first_reached(Body::Moon, moonstart, moon);
     let total = suns + moons;
     let mut i = from;
     let mut at = 0;
     while i < total {
-        let line = line_at(leap, sunstart, sun, moonstart, moon, suns, i);
+        let line = line_at(
+            leap,
+            sunstart,
+            sun,
+            moonstart,
+            moon,
+            sunlowest,
+            moonlowest,
+            suns,
+            i,
+        );
         if room.len() - at < text::inner::line_length(line.index) {
             return Part {
                 lines: i - from,

@@ -5,6 +5,7 @@ use lib.Dec.{lit≤}
 use lib.IntN.{ℤ, pos}
 use lib.ListN.{getD}
 use lib.Signed.{_<ℤ_}
+use mir.Facts.{toZ-ofZ}
 use mathlib.Core.List.{List}
 use mathlib.Core.Path.{_≡_, ap, _∙_}
 use Rattle.whole.specs.Floor.{floorMod}
@@ -36,14 +37,14 @@ some-circle : (body : Body) → pos 0 <ℤ pos (numbers body .circle)
 some-circle Sun = record { lt = tt }
 some-circle Moon = record { lt = tt }
 
-nth-mark-requires : tie.Need-nth-mark-requires
-nth-mark-requires c κs = (c .pre .0 .is-accepted, c .pre .1)
+nth-after-requires : tie.Need-nth-after-requires
+nth-after-requires c κs = (c .pre .0 .is-accepted, (rw (toZ-ofZ (c .fits .lowest)) (c .pre .1 .0), c .pre .1 .1))
 
 shown-in-requires : tie.Need-shown-in-requires
 shown-in-requires c κs =
     let start = c .before .before in
     let s = series (start .args .body) (start .args .start .0) (start .args .coefs .now) in
-    rw (ap second (c .before .nth-mark .ensures)) (nth-readable (start .args .leap .now) s (start .pre .0) (start .args .k) (start .pre .1) utc8 (record { within = lit≤ tt }))
+    rw (ap second (c .before .nth-after .ensures)) (nth-readable (start .args .leap .now) s (start .pre .0) (start .args .k) (start .pre .1 .1) utc8 (record { within = lit≤ tt }))
 
 circle-of-requires : tie.Need-circle-of-requires
 circle-of-requires c κs = search needs
@@ -74,10 +75,10 @@ returns c =
     let body = start .args .body in
     let s = series body (start .args .start .0) (start .args .coefs .now) in
     let m = getD (listedMarks s) (start .args .k) noMark in
-    let there = ap second (nth .nth-mark .ensures) in
-    let index : nth .nth-mark .result .index ≡ m .index = ap (λ (x : Mark). x .index) (nth .nth-mark .ensures) in
+    let there = ap second (nth .nth-after .ensures) in
+    let index : nth .nth-after .result .index ≡ m .index = ap (λ (x : Mark). x .index) (nth .nth-after .ensures) in
     let is : absolute .absolute .result ≡ floorMod (m .index) (numbers body .circle) =
-    rw (back (turn .floor-mod .result) (turn .floor-mod .ok), turn .floor-mod .ensures, back (circle .circle-of .result) (circle .circle-of .ok), back (nth .nth-mark .result .index) (told .struct-told .given .0 .1), circle .circle-of .ensures, index) at (absolute .absolute .ensures)
+    rw (back (turn .floor-mod .result) (turn .floor-mod .ok), turn .floor-mod .ensures, back (circle .circle-of .result) (circle .circle-of .ok), back (nth .nth-after .result .index) (told .struct-told .given .0 .1), circle .circle-of .ensures, index) at (absolute .absolute .ensures)
     in
     line body (start .args .leap .now) m (absolute .before .letter-of .ensures) is (c .moment-of .ensures ∙ ap momentOf (rw there at (shown .shown-in .ensures)))
 
@@ -85,7 +86,7 @@ pub line-of-spec : {M : Type 1} → statement M
 line-of-spec =
     tie.close
     (tie.spec
-    nth-mark-requires
+    nth-after-requires
     shown-in-requires
     circle-of-requires
     floor-mod-requires

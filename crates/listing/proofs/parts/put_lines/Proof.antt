@@ -2,10 +2,14 @@
 use Prim.Native.Nat.{ℕ, _+_, _-_, _≤_, _<_}
 use borrow.Author.Needs.{needs}
 use lib.ListN.{length, getD, take, drop}
+use mir.Syntax.{w64}
+use mir.Val.{toZ, ofZ}
 use mathlib.Core.List.{List, [], _++_}
 use mathlib.Core.Path.{_≡_, sym, ap, ap₂, subst, _∙_}
 use native.Mathlib.Omega.{arith}
+use Rattle.whole.specs.Ranges.{back}
 use Rattle.text.specs.Text.{lineLength, line-length}
+use Rattle.marks.specs.Listed.{firstReached}
 use Rattle.marks.specs.theory.Nth.{marks-few}
 use Rattle.inputs.specs.Inputs.{Inputs, inputs, sun, moon}
 use Rattle.listing.specs.declared.lines.Line.{Line}
@@ -19,19 +23,22 @@ use Rattle.listing.proofs.parts.put_lines.Reads as reads
 use Rattle.listing.proofs.parts.put_lines.Lts as lts
 use Rattle.listing.proofs.parts.line_at.Reads as line-at-reads
 use Rattle.marks.proofs.inner.count.Reads as count-reads
+use Rattle.marks.proofs.inner.first_reached.Reads as first-reached-reads
 use Rattle.text.proofs.inner.line_length.Reads as line-length-reads
 use Rattle.text.proofs.inner.put_line.Reads as put-line-reads
 
 abbrev Inv-loop : tie.InvT-loop
-Inv-loop leap sunstart sun moonstart moon from room₀ suns moons total i₀ at₀ room i at = Printed (linesOf (inputs leap (sunstart .0) sun (moonstart .0) moon)) from room₀ room i at
+Inv-loop leap sunstart sun moonstart moon from room₀ suns moons sunlowest moonlowest total i₀ at₀ room i at = Printed (linesOf (inputs leap (sunstart .0) sun (moonstart .0) moon)) from room₀ room i at
 
 abbrev μ-loop : tie.MeasureT-loop
-μ-loop leap sunstart sun moonstart moon from room₀ suns moons total i₀ at₀ room i at = total - i
+μ-loop leap sunstart sun moonstart moon from room₀ suns moons sunlowest moonlowest total i₀ at₀ room i at = total - i
 
 abbrev called : lts.Claims
 called = (
   count-reads.Asked,
   count-reads.Learnt,
+  first-reached-reads.Asked,
+  first-reached-reads.Learnt,
   line-at-reads.Asked,
   line-at-reads.Learnt,
   line-length-reads.Asked,
@@ -59,11 +66,14 @@ few c =
 abbrev Loop : Type 0
 Loop = lts.At-loop called reads.Pre reads.Post Inv-loop μ-loop
 
-abbrev lines-at : Loop → List (List ℕ)
-lines-at loop = linesOf (inputs-of (loop .before))
+abbrev counts-at : Loop → Counted
+counts-at loop = loop .before .before .before
 
-whole-room : (loop : Loop) → (let start = loop .before .before .before .before in length (loop .loop .room) ≡ length (start .args .room .now))
-whole-room loop = let start = loop .before .before .before .before in room-length (lines-at loop) (start .args .from) (start .args .room .now) (loop .loop .inv)
+abbrev lines-at : Loop → List (List ℕ)
+lines-at loop = linesOf (inputs-of (counts-at loop))
+
+whole-room : (loop : Loop) → (let start = loop .before .before .before .before .before .before in length (loop .loop .room) ≡ length (start .args .room .now))
+whole-room loop = let start = loop .before .before .before .before .before .before in room-length (lines-at loop) (start .args .from) (start .args .room .now) (loop .loop .inv)
 
 size-of : (r : Line) → length (lineText r) ≡ lineLength (r .index)
 size-of r = line-length (r .letter) (r .index) (r .moment .year) (r .moment .month) (r .moment .day) (r .moment .hour) (r .moment .minute) (r .moment .second) (r .moment .millisecond)
@@ -76,16 +86,25 @@ count-requires c κs = c .before .pre .sun-ready .is-accepted
 count-requires-2 : tie.Need-count-requires-2 Inv-loop μ-loop
 count-requires-2 c κs = c .before .before .pre .moon-ready .is-accepted
 
+first-reached-requires : tie.Need-first-reached-requires Inv-loop μ-loop
+first-reached-requires c κs = c .before .before .before .pre .sun-ready .is-accepted
+
+first-reached-requires-2 : tie.Need-first-reached-requires-2 Inv-loop μ-loop
+first-reached-requires-2 c κs = c .before .before .before .before .pre .moon-ready .is-accepted
+
 add-total : tie.Need-add-total Inv-loop μ-loop
-add-total c = record { fits = omega (arith, counted c, few c) }
+add-total c = let counts = c .before .before in record { fits = omega (arith, counted counts, few counts) }
 
 loop-holds : tie.Need-loop-holds Inv-loop μ-loop
-loop-holds c = let begin = c .before .before .before in start (linesOf (inputs-of c)) (begin .args .from) (begin .args .room .now)
+loop-holds c = let begin = c .before .before .before .before .before in start (linesOf (inputs-of (c .before .before))) (begin .args .from) (begin .args .room .now)
 
 line-at-requires : tie.Need-line-at-requires Inv-loop μ-loop
 line-at-requires c κs =
-    let counts = c .before .before in
-    (counts .before .before .before .pre, (counts .before .count .ensures, omega (arith, c .loop-test .taken, counted counts)))
+    let first = c .before .before in
+    let counts = first .before .before in
+    let sun-lowest : toZ w64 (ofZ w64 (first .before .first-reached .result)) ≡ firstReached (sun (inputs-of counts)) = rw (back (first .before .first-reached .result) (first .before .first-reached .ok)) (first .before .first-reached .ensures) in
+    let moon-lowest : toZ w64 (ofZ w64 (first .first-reached2 .result)) ≡ firstReached (moon (inputs-of counts)) = rw (back (first .first-reached2 .result) (first .first-reached2 .ok)) (first .first-reached2 .ensures) in
+    (counts .before .before .before .pre, (sun-lowest, (moon-lowest, (counts .before .count .ensures, omega (arith, c .loop-test .taken, counted counts)))))
 
 sub-if1 : tie.Need-sub-if1 Inv-loop μ-loop
 sub-if1 c = let loop = c .before .before in omega (arith, loop .loop .inv .inside, whole-room loop)
@@ -93,8 +112,8 @@ sub-if1 c = let loop = c .before .before in omega (arith, loop .loop .inv .insid
 line-length-requires : tie.Need-line-length-requires Inv-loop μ-loop
 line-length-requires c κs = search needs
 
-sub-t20 : tie.Need-sub-t20 Inv-loop μ-loop
-sub-t20 c = c .before .before .before .before .loop .inv .forward
+sub-t22 : tie.Need-sub-t22 Inv-loop μ-loop
+sub-t22 c = c .before .before .before .before .loop .inv .forward
 
 same-length : tie.Need-same-length Inv-loop μ-loop
 same-length c = whole-room (c .before .before .before .before)
@@ -104,10 +123,10 @@ returns c =
     let line = c .before .before in
     let turn = line .before in
     let loop = turn .before in
-    let begin = loop .before .before .before .before in
+    let begin = loop .before .before .before .before .before .before in
     let lines = lines-at loop in
     let size : length (getD lines (loop .loop .i) []) ≡ lineLength (line .line-at .result .index) = ap length (sym (line .line-at .ensures)) ∙ size-of (line .line-at .result) in
-    stop-full lines (begin .args .from) (begin .args .room .now) (loop .loop .inv) (omega (arith, turn .loop-test .taken, counted (loop .before))) (omega (arith, c .if1 .taken, c .before .line-length .ensures, whole-room loop))
+    stop-full lines (begin .args .from) (begin .args .room .now) (loop .loop .inv) (omega (arith, turn .loop-test .taken, counted (counts-at loop))) (omega (arith, c .if1 .taken, c .before .line-length .ensures, whole-room loop))
 
 put-line-requires : tie.Need-put-line-requires Inv-loop μ-loop
 put-line-requires c κs =
@@ -118,7 +137,7 @@ put-line-requires c κs =
 add-i : tie.Need-add-i Inv-loop μ-loop
 add-i c =
     let turn = c .before .before .before .before .before .before .before .before in
-    let counts = turn .before .before in
+    let counts = counts-at (turn .before) in
     record { fits = omega (arith, turn .loop-test .taken, counted counts, few counts) }
 
 loop-less : tie.Need-loop-less Inv-loop μ-loop
@@ -132,18 +151,18 @@ loop-again c =
     let line = measured .before in
     let turn = line .before in
     let loop = turn .before in
-    let begin = loop .before .before .before .before in
+    let begin = loop .before .before .before .before .before .before in
     let lines = lines-at loop in
     let l = loop .loop in
     let text : lineText (line .line-at .result) ≡ getD lines (l .i) [] = line .line-at .ensures in
     let size : length (getD lines (l .i) []) ≡ lineLength (line .line-at .result .index) = ap length (sym text) ∙ size-of (line .line-at .result) in
-    let more : l .i < length lines = omega (arith, turn .loop-test .taken, counted (loop .before)) in
+    let more : l .i < length lines = omega (arith, turn .loop-test .taken, counted (counts-at loop)) in
     let fits : length (getD lines (l .i) []) ≤ length (begin .args .room .now) - l .at = omega (arith, fitted .if1 .left, measured .line-length .ensures, whole-room loop) in
     let held = put .ensures .1 ∙ ap₂ (λ (x : List ℕ) (n : ℕ). take (l .at) (l .room) ++ x ++ drop (l .at + n) (l .room)) text (sym size) in
     subst (λ (n : ℕ). Printed lines (begin .args .from) (begin .args .room .now) (put .last .0) (l .i + 1) n) (sym (put .ensures .0 ∙ ap (λ (n : ℕ). l .at + n) (sym size))) (next lines (begin .args .from) (begin .args .room .now) (l .inv) more (put .last .0) fits held)
 
-sub-t23 : tie.Need-sub-t23 Inv-loop μ-loop
-sub-t23 c = c .before .loop .inv .forward
+sub-t25 : tie.Need-sub-t25 Inv-loop μ-loop
+sub-t25 c = c .before .loop .inv .forward
 
 same-length-2 : tie.Need-same-length-2 Inv-loop μ-loop
 same-length-2 c = whole-room (c .before)
@@ -151,8 +170,8 @@ same-length-2 c = whole-room (c .before)
 returns-2 : tie.Need-returns-2 Inv-loop μ-loop
 returns-2 c =
     let loop = c .before in
-    let begin = loop .before .before .before .before in
-    stop-end (lines-at loop) (begin .args .from) (begin .args .room .now) (loop .loop .inv) (omega (arith, c .loop-test .left, counted (loop .before)))
+    let begin = loop .before .before .before .before .before .before in
+    stop-end (lines-at loop) (begin .args .from) (begin .args .room .now) (loop .loop .inv) (omega (arith, c .loop-test .left, counted (counts-at loop)))
 
 pub put-lines-spec : {M : Type 1} → statement M
 put-lines-spec =
@@ -162,18 +181,20 @@ put-lines-spec =
     μ-loop
     count-requires
     count-requires-2
+    first-reached-requires
+    first-reached-requires-2
     add-total
     loop-holds
     line-at-requires
     sub-if1
     line-length-requires
-    sub-t20
+    sub-t22
     same-length
     returns
     put-line-requires
     add-i
     loop-less
     loop-again
-    sub-t23
+    sub-t25
     same-length-2
     returns-2)
