@@ -1,14 +1,13 @@
 -- One turn of a loop that adds up terms f(n) from n = 1 on, over ℤ: what the sum is, and that it fits. Assumes nothing.
 use mathlib.Core.Path.{_≡_, refl, ap, _∙_}
 use mathlib.Core.List.{[], _∷_}
-use Prim.Native.Nat.{ℕ, suc, _+_, _*_, _-_, _≤_, _<_}
+use Prim.Native.Nat.{ℕ, suc, _+_, _-_, _≤_, _<_}
 use native.Mathlib.Omega.{arith}
-use native.Mathlib.Nat.{mul-le-mul-left, mul-le-mul}
-use lib.IntN.{ℤ, pos, natAbs, _+ℤ_}
+use lib.IntN.{ℤ, natAbs, _+ℤ_}
 use mir.Syntax.{w64}
 use mir.Val.{SFits}
 use Rattle.whole.specs.Laws.{abs-+}
-use Rattle.whole.specs.Ranges.{Within, ok-fits, fit-hyp}
+use Rattle.whole.specs.Ranges.{Within, fit-hyp}
 use Rattle.whole.specs.Solver.{⇑, ⇓, ring}
 use Rattle.chebyshev.specs.Segment.{sum}
 use Rattle.chebyshev.specs.theory.Bounds.{sum-within}

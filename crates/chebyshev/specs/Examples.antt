@@ -7,7 +7,7 @@ use lib.IntN.{ℤ, pos, negsuc, negℤ, _*ℤ_}
 use Rattle.whole.specs.Floor.{floorDiv}
 use Rattle.whole.specs.Evaluated.{same, all}
 use Rattle.chebyshev.specs.Polynomials.{S, P, Q}
-use Rattle.chebyshev.specs.Segment.{sum, value, exact, divisor, slope, larger, outOfRange}
+use Rattle.chebyshev.specs.Segment.{sum, value, exact, divisor, slope, outOfRange}
 use Rattle.chebyshev.specs.EndValues.{turn, firstValue, plainSum, squareSum, lastValue}
 
 -- the Sun series of document 01

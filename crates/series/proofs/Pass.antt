@@ -1,5 +1,5 @@
 -- One turn of the pass over the segments: what is held before segment k, what its judgements make of it, and what it says at the end. Assumes nothing.
-use mathlib.Core.Path.{_≡_, refl, sym, ap, ap₂, _∙_}
+use mathlib.Core.Path.{_≡_, sym, ap, _∙_}
 use mathlib.Core.Bool.{Bool, true, false, cond}
 use mathlib.Core.List.{List}
 use Prim.Native.Nat.{ℕ, zero, suc, _+_, _*_, _-_, _<_, _≤_}
@@ -12,7 +12,7 @@ use Rattle.whole.specs.Ranges.{Within}
 use Rattle.chebyshev.specs.Polynomials.{S}
 use Rattle.chebyshev.specs.Segment.{value, slope, InRange}
 use Rattle.chebyshev.specs.Theorems.{value-bound, in-range-exactly}
-use Rattle.refusals.specs.Verdict.{Verdict, refused, accepted, _before_}
+use Rattle.refusals.specs.Verdict.{refused, accepted}
 use Rattle.refusals.specs.Search.{firstBad, firstBad-good, firstBad-bad, firstBad-end}
 use Rattle.series.specs.declared.Body.{Body}
 use Rattle.series.specs.Bodies.{numbers}

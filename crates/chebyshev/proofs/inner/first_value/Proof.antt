@@ -1,15 +1,14 @@
 -- `chebyshev::inner::first_value` meets its contract: the sum with signs in turn, which is the value there by `first-value`. Assumes nothing.
 use borrow.Author.Needs.{needs}
-use mathlib.Core.Path.{_≡_, refl, sym, ap, _∙_}
-use mathlib.Core.List.{List, [], _∷_}
-use Prim.Native.Nat.{ℕ, zero, suc, _-_, _*_, _≤_, _<_}
+use mathlib.Core.Path.{_≡_, refl, sym, _∙_}
+use mathlib.Core.List.{List}
+use Prim.Native.Nat.{ℕ, zero, suc, _-_, _≤_, _<_}
 use native.Mathlib.Omega.{arith}
-use native.Mathlib.Nat.{mul-le-mul}
-use lib.IntN.{ℤ, pos, negℤ, natAbs, _+ℤ_, _*ℤ_}
+use lib.IntN.{ℤ, natAbs, _*ℤ_}
 use mir.Syntax.{w64}
 use mir.Val.{toZ, ofZ}
 use mir.Facts.{toZ-ofZ}
-use Rattle.whole.specs.Ranges.{Within, back}
+use Rattle.whole.specs.Ranges.{back}
 use Rattle.chebyshev.specs.Segment.{coefficient, InRange, sum}
 use Rattle.chebyshev.proofs.Read.{coefficient-back, constant-back}
 use Rattle.chebyshev.proofs.Running.{Running, running-start, running-turn, running-end, running-fits}

@@ -1,16 +1,12 @@
 -- `chebyshev::inner::plain_sum` meets its contract. Assumes nothing.
 use borrow.Author.Needs.{needs}
-use mathlib.Core.Path.{_≡_, refl, sym, ap, _∙_}
-use mathlib.Core.List.{List, [], _∷_}
-use Prim.Native.Nat.{ℕ, _-_, _*_, _≤_, _<_}
+use mathlib.Core.List.{List}
+use Prim.Native.Nat.{ℕ, _-_, _≤_, _<_}
 use native.Mathlib.Omega.{arith}
-use native.Mathlib.Nat.{mul-le-mul}
-use lib.IntN.{ℤ, pos, negℤ, natAbs, _+ℤ_, _*ℤ_}
+use lib.IntN.{ℤ, natAbs}
 use mir.Syntax.{w64}
-use mir.Val.{toZ, ofZ}
+use mir.Val.{toZ}
 use mir.Facts.{toZ-ofZ}
-use Rattle.whole.specs.Ranges.{Within, back}
-use Rattle.whole.specs.Laws.{abs-*}
 use Rattle.chebyshev.specs.Segment.{coefficient, InRange, sum}
 use Rattle.chebyshev.proofs.Read.{coefficient-back, constant-back}
 use Rattle.chebyshev.proofs.Running.{Running, running-start, running-turn, running-end, running-fits}

@@ -1,15 +1,13 @@
 -- `chebyshev::inner::slope` meets its contract. The invariant: what is left is c1 less the weights below n. Assumes nothing.
 use borrow.Author.Needs.{needs}
 use mathlib.Core.Path.{_≡_, ap, _∙_}
-use mathlib.Core.List.{List}
-use Prim.Native.Nat.{ℕ, _-_, _*_, _≤_}
+use Prim.Native.Nat.{_-_, _*_}
 use native.Mathlib.Omega.{arith}
 use lib.IntN.{ℤ, pos, natAbs}
 use mir.Syntax.{w64}
 use mir.Val.{toZ, ofZ}
 use mir.Facts.{toZ-ofZ}
-use Rattle.whole.specs.Ranges.{fit-hyp}
-use Rattle.chebyshev.specs.Segment.{coefficient, InRange}
+use Rattle.chebyshev.specs.Segment.{coefficient}
 use Rattle.chebyshev.proofs.Read.{coefficient-back}
 use Rattle.chebyshev.proofs.Fall.{Left, left-start, left-turn, left-end, difference-fits}
 use Rattle.chebyshev.proofs.inner.slope.Statement.{statement}

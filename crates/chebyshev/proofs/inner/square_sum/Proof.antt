@@ -1,16 +1,16 @@
 -- `chebyshev::inner::square_sum` meets its contract. Assumes nothing.
 use borrow.Author.Needs.{needs}
-use mathlib.Core.Path.{_≡_, refl, sym, ap, _∙_}
+use mathlib.Core.Path.{_≡_, refl, _∙_}
 use mathlib.Core.List.{List, [], _∷_}
 use Prim.Native.Nat.{ℕ, _-_, _*_, _≤_, _<_}
 use native.Mathlib.Omega.{arith}
-use lib.IntN.{ℤ, pos, negℤ, natAbs, _+ℤ_, _*ℤ_}
+use lib.IntN.{ℤ, pos, natAbs, _*ℤ_}
 use mir.Syntax.{w64}
 use mir.Val.{toZ, ofZ}
 use mir.Facts.{toZ-ofZ}
-use Rattle.whole.specs.Ranges.{Within, back}
+use Rattle.whole.specs.Ranges.{back}
 use Rattle.chebyshev.specs.Segment.{coefficient, InRange, sum}
-use Rattle.chebyshev.proofs.Read.{coefficient-back, constant-back}
+use Rattle.chebyshev.proofs.Read.{coefficient-back}
 use Rattle.chebyshev.proofs.Running.{Running, running-start, running-turn, running-end, running-fits}
 use Rattle.chebyshev.specs.theory.Bounds.{square-small}
 use Rattle.whole.specs.Solver.{⇑, ring}

@@ -1,9 +1,9 @@
 -- `chebyshev::inner::squared` meets its contract. Assumes nothing.
-use mathlib.Core.Path.{_≡_, ap, _∙_}
-use Prim.Native.Nat.{ℕ, _*_, _≤_}
+use mathlib.Core.Path.{_∙_}
+use Prim.Native.Nat.{_*_, _≤_}
 use native.Mathlib.Omega.{arith}
 use native.Mathlib.Nat.{mul-le-mul}
-use lib.IntN.{ℤ, pos, _*ℤ_}
+use lib.IntN.{pos}
 use mir.Facts.{toZ-ofZ}
 use Rattle.whole.specs.Ranges.{Within, fits, bound-mul, bound-hyp}
 use Rattle.chebyshev.proofs.inner.squared.Statement.{statement}

@@ -1,5 +1,4 @@
 -- `series::judging::first_of` meets its contract. Assumes nothing.
-use mathlib.Core.Path.{_≡_}
 use borrow.Author.Tests.{lt-ltb, le-ltb}
 use Rattle.series.proofs.judging.first_of.Statement.{statement}
 use Rattle.series.proofs.judging.first_of.Tie as tie

@@ -1,5 +1,4 @@
 -- `series::judging::kept_refusal` meets its contract. Assumes nothing.
-use mathlib.Core.Path.{_≡_}
 use borrow.Author.Tests.{lt-ltb, le-ltb}
 use Rattle.series.proofs.judging.kept_refusal.Statement.{statement}
 use Rattle.series.proofs.judging.kept_refusal.Tie as tie

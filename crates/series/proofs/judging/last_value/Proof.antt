@@ -1,21 +1,18 @@
 -- `series::judging::last_value` meets its contract: the sums of the closed form, which is the value there by `last-value`. Assumes nothing.
 use borrow.Author.Needs.{needs}
-use mathlib.Core.Path.{_≡_, refl, sym, ap, _∙_}
+use mathlib.Core.Path.{_≡_, refl, sym, _∙_}
 use mathlib.Core.List.{List, [], _∷_}
-use Prim.Native.Nat.{_*_, _<_}
-use lib.Dec.{lit<}
 use lib.IntN.{ℤ, pos, negℤ, _+ℤ_, _-ℤ_}
 use mir.Syntax.{w64}
 use mir.Val.{SFits, ofZ, toZ}
 use Rattle.whole.specs.Floor.{floorDiv}
-use Rattle.whole.specs.Ranges.{Within, fits, within, fit-hyp, bounds, back}
+use Rattle.whole.specs.Ranges.{fits, within, fit-hyp, bounds, back}
 use Rattle.whole.specs.Solver.{⇑, ring}
 use Rattle.chebyshev.specs.Polynomials.{S}
 use Rattle.chebyshev.specs.Segment.{value, InRange}
 use Rattle.chebyshev.specs.EndValues.{plainSum, squareSum, lastValue}
 use Rattle.chebyshev.specs.Theorems as theorems
 use Rattle.series.specs.declared.Body.{Body}
-use Rattle.series.specs.declared.Body.the-variants.{Sun, Moon}
 use Rattle.series.specs.Bodies.{numbers, body-laws}
 use Rattle.series.specs.theory.Span.{last-within}
 use Rattle.series.proofs.judging.last_value.Statement.{statement}
