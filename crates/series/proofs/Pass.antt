@@ -22,11 +22,12 @@ use Rattle.series.specs.theory.Known.{segment-length}
 use Rattle.series.specs.theory.Kept.{firstOf, found, none-found, found-same, found-turn, found-end, found-before}
 use Rattle.series.specs.theory.Span.{last-within}
 
--- What is held before segment k: each search, over all segments, is what was kept of it and what it says of the segments from k on (joints begin at 1).
-pub record Passed (body : Body) (coefs : List ℤ) (slowest joint : ℕ) (last : ℤ) (k : ℕ) : Type 0 where
+-- What is held before segment k: each search over all segments is what was kept of it, the first slow segment and the first bad joint, and what it says of the
+-- segments from k on (joints begin at 1).
+pub record Passed (body : Body) (coefs : List ℤ) (slowAt jointAt : ℕ) (last : ℤ) (k : ℕ) : Type 0 where
   pub ranges : firstBad 3 (badRange coefs) 0 (segments coefs) ≡ firstBad 3 (badRange coefs) k (segments coefs - k)
-  pub slopes : firstBad 4 (slow body coefs) 0 (segments coefs) ≡ found 4 slowest (segments coefs) (firstBad 4 (slow body coefs) k (segments coefs - k))
-  pub joints : firstBad 5 (badJoint body coefs) 1 (segments coefs - 1) ≡ found 5 joint (segments coefs) (firstBad 5 (badJoint body coefs) (k - 1 + 1) (segments coefs - (k - 1 + 1)))
+  pub slopes : firstBad 4 (slow body coefs) 0 (segments coefs) ≡ found 4 slowAt (segments coefs) (firstBad 4 (slow body coefs) k (segments coefs - k))
+  pub joints : firstBad 5 (badJoint body coefs) 1 (segments coefs - 1) ≡ found 5 jointAt (segments coefs) (firstBad 5 (badJoint body coefs) (k - 1 + 1) (segments coefs - (k - 1 + 1)))
   pub last-small : Within 1000100000000000 last
   pub last-is : 1 ≤ k → last ≡ value (segment coefs (k - 1)) (pos S -ℤ pos (numbers body .step))
 
@@ -47,26 +48,26 @@ module _ (body : Body) (coefs : List ℤ) where
   }
 
   -- the joint before segment k, looked at; there is none before segment 0
-  joint-turn : (joint : ℕ) (last : ℤ) (k : ℕ) → k < n → (1 ≤ k → last ≡ value (segment coefs (k - 1)) (pos S -ℤ pos (numbers body .step))) → found 5 joint n (firstBad 5 (badJoint body coefs) (k - 1 + 1) (n - (k - 1 + 1))) ≡ found 5 (firstOf joint n (cond (eqb k 0) false (badRise (value (segment coefs k) (negℤ (pos S)) -ℤ last))) k) n (firstBad 5 (badJoint body coefs) (k + 1 - 1 + 1) (n - (k + 1 - 1 + 1)))
-  joint-turn joint last zero l is = found-same 5 joint n 0 (firstBad 5 (badJoint body coefs) 1 (n - 1))
-  joint-turn joint last (suc k) l is =
+  joint-turn : (jointAt : ℕ) (last : ℤ) (k : ℕ) → k < n → (1 ≤ k → last ≡ value (segment coefs (k - 1)) (pos S -ℤ pos (numbers body .step))) → found 5 jointAt n (firstBad 5 (badJoint body coefs) (k - 1 + 1) (n - (k - 1 + 1))) ≡ found 5 (firstOf jointAt n (cond (eqb k 0) false (badRise (value (segment coefs k) (negℤ (pos S)) -ℤ last))) k) n (firstBad 5 (badJoint body coefs) (k + 1 - 1 + 1) (n - (k + 1 - 1 + 1)))
+  joint-turn jointAt last zero l is = found-same 5 jointAt n 0 (firstBad 5 (badJoint body coefs) 1 (n - 1))
+  joint-turn jointAt last (suc k) l is =
       let here : suc k - 1 + 1 ≡ suc k = omega arith in
       let next : suc k + 1 - 1 + 1 ≡ suc k + 1 = omega arith in
       let not-first : eqb (suc k) 0 ≡ false = ne-eqb (suc k) 0 (λ e. omega arith) in
-      rw (here, next, not-first, is (omega arith)) (found-turn 5 (badJoint body coefs) joint n (suc k) l)
+      rw (here, next, not-first, is (omega arith)) (found-turn 5 (badJoint body coefs) jointAt n (suc k) l)
 
-  module _ {slowest joint : ℕ} {last : ℤ} {k : ℕ} (h : Passed body coefs slowest joint last k) where
+  module _ {slowAt jointAt : ℕ} {last : ℤ} {k : ℕ} (h : Passed body coefs slowAt jointAt last k) where
     -- 3 refuses at once
     pub pass-refused : k < n → badRange coefs k ≡ true → judgedSegments body coefs ≡ refused 3 k
     pass-refused l bad = rw (h .ranges ∙ firstBad-bad 3 (badRange coefs) k n l bad)
 
     -- at the end, what was kept decides
-    pub pass-end : n ≤ k → judgedSegments body coefs ≡ found 4 slowest n (found 5 joint n accepted)
+    pub pass-end : n ≤ k → judgedSegments body coefs ≡ found 4 slowAt n (found 5 jointAt n accepted)
     pass-end l =
         let ranges : firstBad 3 (badRange coefs) 0 n ≡ accepted = h .ranges ∙ firstBad-end 3 (badRange coefs) k n l in
-        let slopes = h .slopes ∙ found-end 4 (slow body coefs) slowest n k l in
-        let joints = h .joints ∙ found-end 5 (badJoint body coefs) joint n (k - 1 + 1) (omega arith) in
-        rw (ranges, slopes, joints) (found-before 4 slowest n (found 5 joint n accepted))
+        let slopes = h .slopes ∙ found-end 4 (slow body coefs) slowAt n k l in
+        let joints = h .joints ∙ found-end 5 (badJoint body coefs) jointAt n (k - 1 + 1) (omega arith) in
+        rw (ranges, slopes, joints) (found-before 4 slowAt n (found 5 jointAt n accepted))
 
     module _ (l : k < n) (good : badRange coefs k ≡ false) where
       abbrev part : List ℤ
@@ -82,11 +83,11 @@ module _ (body : Body) (coefs : List ℤ) where
       same : k ≡ k + 1 - 1
       same = omega arith
 
-      pub pass-turn : Passed body coefs (firstOf slowest n (ltZ (slope part) (pos (100 * numbers body .halfLength))) k) (firstOf joint n tested k) (value part (pos S -ℤ pos (numbers body .step))) (k + 1)
+      pub pass-turn : Passed body coefs (firstOf slowAt n (ltZ (slope part) (pos (100 * numbers body .halfLength))) k) (firstOf jointAt n tested k) (value part (pos S -ℤ pos (numbers body .step))) (k + 1)
       pass-turn = record {
         ranges = h .ranges ∙ firstBad-good 3 (badRange coefs) k n l good;
-        slopes = h .slopes ∙ found-turn 4 (slow body coefs) slowest n k l;
-        joints = h .joints ∙ joint-turn joint last k l (h .last-is);
+        slopes = h .slopes ∙ found-turn 4 (slow body coefs) slowAt n k l;
+        joints = h .joints ∙ joint-turn jointAt last k l (h .last-is);
         last-small = value-bound part-in-range (last-within body);
         last-is = λ i. ap (λ (m : ℕ). value (segment coefs m) (pos S -ℤ pos (numbers body .step))) same;
       }
