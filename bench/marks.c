@@ -85,10 +85,26 @@ static inline bool out_of_range(const int64_t *c) {
     return 0;
 }
 
-static inline int64_t first_value(const int64_t *c) {
+static inline int64_t even_sum(const int64_t *c) {
     int64_t sum = c[0];
-    for (size_t n = 1; n < 14; n++) sum += n % 2 == 0 ? c[n] : -c[n];
+    for (size_t i = 1; i < 7; i++) sum += c[2 * i];
     return sum;
+}
+
+static inline int64_t odd_sum(const int64_t *c) {
+    int64_t sum = c[1];
+    for (size_t i = 1; i < 7; i++) sum += c[2 * i + 1];
+    return sum;
+}
+
+static inline int64_t square_sum(const int64_t *c) {
+    int64_t sum = 0;
+    for (size_t n = 1; n < 14; n++) sum += c[n] * (int64_t)(n * n);
+    return sum;
+}
+
+static inline int64_t first_value(const int64_t *c) {
+    return even_sum(c) - odd_sum(c);
 }
 
 static inline int64_t floor_by_half(bool moon, int64_t t) {
@@ -97,10 +113,7 @@ static inline int64_t floor_by_half(bool moon, int64_t t) {
 }
 
 static inline int64_t last_value(bool moon, const int64_t *c) {
-    int64_t sum = c[0], weighed = 0;
-    for (size_t n = 1; n < 14; n++) sum += c[n];
-    for (size_t n = 1; n < 14; n++) weighed += c[n] * (int64_t)(n * n);
-    return sum + floor_by_half(moon, -weighed);
+    return even_sum(c) + odd_sum(c) + floor_by_half(moon, -square_sum(c));
 }
 
 static inline size_t first_of(size_t kept, size_t count, bool bad, size_t k) {

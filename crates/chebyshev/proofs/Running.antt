@@ -1,4 +1,4 @@
--- One turn of a loop that adds up terms f(n) from n = 1 on, over ℤ: what the sum is, and that it fits. Assumes nothing.
+-- One turn of a loop that adds up terms f(n) from n = 1 to below `end`, over ℤ: what the sum is, and that it fits. Assumes nothing.
 use mathlib.Core.Path.{_≡_, refl, ap, _∙_}
 use mathlib.Core.List.{[], _∷_}
 use Prim.Native.Nat.{ℕ, suc, _+_, _-_, _≤_, _<_}
@@ -13,9 +13,9 @@ use Rattle.chebyshev.specs.Segment.{sum}
 use Rattle.chebyshev.specs.theory.Bounds.{sum-within}
 
 -- what is held before the turn at n: the start and the terms below n
-pub record Running (start : ℤ) (f : ℕ → ℤ) (total : ℤ) (n : ℕ) : Type 0 where
+pub record Running (end : ℕ) (start : ℤ) (f : ℕ → ℤ) (total : ℤ) (n : ℕ) : Type 0 where
   pub low : 1 ≤ n
-  pub high : n ≤ 14
+  pub high : n ≤ end
   pub is : total ≡ start +ℤ sum 1 (n - 1) f
 
 sum-at : (f : ℕ → ℤ) (n : ℕ) → 1 ≤ n → sum 1 n f ≡ sum 1 (n - 1) f +ℤ f n
@@ -28,27 +28,27 @@ sum-at f n l = ap (λ (k : ℕ). sum 1 k f) e ∙ ap (λ (k : ℕ). sum 1 (n - 1
     k : 1 + (n - 1) ≡ n
     k = omega arith
 
-module _ {start : ℤ} {f : ℕ → ℤ} where
-  pub running-start : Running start f start 1
+module _ {end : ℕ} {start : ℤ} {f : ℕ → ℤ} where
+  pub running-start : 1 ≤ end → Running end start f start 1
   unfolding sum
-  running-start = record { low = omega arith; high = omega arith; is = ⇑ (start ∷ []) (search ring depth 9) refl }
+  running-start h = record { low = omega arith; high = omega arith; is = ⇑ (start ∷ []) (search ring depth 9) refl }
 
-  module _ {total : ℤ} {n : ℕ} (h : Running start f total n) where
-    pub running-end : 14 ≤ n → total ≡ start +ℤ sum 1 13 f
+  module _ {total : ℤ} {n : ℕ} (h : Running end start f total n) where
+    pub running-end : end ≤ n → total ≡ start +ℤ sum 1 (end - 1) f
     running-end l = h .is ∙ ap (λ (k : ℕ). start +ℤ sum 1 k f) (omega (arith, h .high))
 
-    module _ (l : n < 14) where
+    module _ (l : n < end) where
       more : total +ℤ f n ≡ start +ℤ sum 1 n f
       more =
           let ρ = total ∷ start ∷ sum 1 (n - 1) f ∷ sum 1 n f ∷ f n ∷ [] in
           ⇑ ρ (search ring depth 9) (omega (arith, ⇓ ρ (h .is) (search ring depth 9), ⇓ ρ (sum-at f n (h .low)) (search ring depth 9)))
 
-      pub running-turn : Running start f (total +ℤ f n) (n + 1)
+      pub running-turn : Running end start f (total +ℤ f n) (n + 1)
       running-turn = record { low = omega arith; high = omega arith; is = more ∙ ap (λ (k : ℕ). start +ℤ sum 1 k f) (omega arith) }
 
       -- |start| ≤ 10¹⁵ and |f(n)| ≤ 10¹² keep every sum inside 64 bits
-      pub running-fits : Within 1000000000000000 start → ((k : ℕ) → 1 ≤ k → k < 14 → natAbs (f k) ≤ 1000000000000) → SFits w64 (total +ℤ f n)
-      running-fits s each = rw more (fit-hyp small tt)
+      pub running-fits : end ≤ 14 → Within 1000000000000000 start → ((k : ℕ) → 1 ≤ k → k < end → natAbs (f k) ≤ 1000000000000) → SFits w64 (total +ℤ f n)
+      running-fits few s each = rw more (fit-hyp small tt)
         where
           small : Within 1013000000000000 (start +ℤ sum 1 n f)
           small = record { within = omega (arith, abs-+ start (sum 1 n f), s .within, sum-within 1 n 1000000000000 f (λ k i j. each k i (omega arith))) }

@@ -8,7 +8,7 @@ use Rattle.whole.specs.Floor.{floorDiv}
 use Rattle.whole.specs.Evaluated.{same, all}
 use Rattle.chebyshev.specs.Polynomials.{S, P, Q}
 use Rattle.chebyshev.specs.Segment.{sum, value, exact, divisor, slope, outOfRange}
-use Rattle.chebyshev.specs.EndValues.{turn, firstValue, plainSum, squareSum, lastValue}
+use Rattle.chebyshev.specs.EndValues.{evenSum, oddSum, squareSum, firstValue, lastValue}
 
 -- the Sun series of document 01
 abbrev even : List ℤ
@@ -36,7 +36,7 @@ with13 c13 = pos 0 ∷ pos 0 ∷ pos 0 ∷ pos 0 ∷ pos 0 ∷ pos 0 ∷ pos 0 �
 
 -- the first value and the last, of the Sun (48 before S, H = 1,382,400) and of the Moon (384 before S, H = 172,800): the closed forms, and the value itself
 unfoldable pub ends : List Bool
-unfolding value firstValue plainSum squareSum lastValue turn sum P floorDiv
+unfolding value evenSum oddSum squareSum firstValue lastValue sum P floorDiv
 ends =
     same (firstValue even) (pos 0)
     ∷ same (firstValue bent) (pos 1000)

@@ -16,11 +16,11 @@ use Rattle.whole.specs.Floor.{floorDiv}
 use Rattle.whole.specs.Ranges.{Within}
 use Rattle.chebyshev.specs.Polynomials.{S, P, Q, W}
 use Rattle.chebyshev.specs.Segment.{coefficient, value, exact, divisor, allowance, outOfRange, InRange, slope}
-use Rattle.chebyshev.specs.EndValues.{firstValue, squareSum, lastValue}
+use Rattle.chebyshev.specs.EndValues.{evenSum, oddSum, squareSum, firstValue, lastValue}
 use Rattle.chebyshev.specs.theory.Pell.{Q-within, W-within}
 use Rattle.chebyshev.specs.theory.Forced.{Forced, forced-within}
 use Rattle.chebyshev.specs.theory.Rounding.{P-within}
-use Rattle.chebyshev.specs.theory.Bounds.{partial, partial-small, floor-small, square-sum-small, weights-small}
+use Rattle.chebyshev.specs.theory.Bounds.{partial, partial-small, floor-small, even-sum-small, odd-sum-small, square-sum-small, weights-small}
 use Rattle.chebyshev.specs.theory.Ends.{first-is, last-is}
 use Rattle.chebyshev.specs.theory.Ranges.{in-range, none-larger}
 use Rattle.chebyshev.specs.theory.Nearness.{near}
@@ -69,7 +69,13 @@ module _ {c : List ℤ} (r : InRange c) where
   unfolding value
   value-bound {x} h = record { within = omega (arith, abs-+ (coefficient c 0) (floorDiv (partial c x 13) S), r .constant .within, floor-small (partial c x 13) (partial-small r h 13 (omega arith) .within)) }
 
-  -- and so is the sum that the last value divides by H
+  -- and so are the sums of the closed forms
+  pub even-sum-bound : Within 1000100000000000 (evenSum c)
+  even-sum-bound = even-sum-small r
+
+  pub odd-sum-bound : Within 100000000000 (oddSum c)
+  odd-sum-bound = odd-sum-small r
+
   pub square-sum-bound : Within 10000000000000 (squareSum c)
   square-sum-bound = square-sum-small r
 

@@ -7,7 +7,7 @@ ghost use Rattle.whole.specs.Ranges.{Within};
 ghost use Rattle.chebyshev.specs.Polynomials.{S};
 ghost use Rattle.chebyshev.specs.Segment.{InRange};
 ghost use Rattle.chebyshev.specs.Segment as segment;
-ghost use Rattle.chebyshev.specs.EndValues.{turn, plainSum, squareSum};
+ghost use Rattle.chebyshev.specs.EndValues.{evenSum, oddSum, squareSum};
 
 // How large the n-th coefficient may be.
 fn limit_of(n: usize) -> u64
@@ -103,42 +103,43 @@ pub fn slope(coefs: &[i64]) -> i64
     left
 }
 
-// A coefficient times the polynomial at the first place, over the scale: with its sign turned where n is odd.
-fn turned(c: i64, n: usize) -> i64
-    requires { ⌜ Within 4000000000 c ⌝ }
-    ensures { λ r. ⌜ r ≡ c *ℤ turn n ⌝ }
+// c0 + c2 + .. + c12.
+pub fn even_sum(coefs: &[i64]) -> i64
+    requires { do ⌜ (← ⟦coefs.len()⟧) ≡ 14 ⌝ }
+    requires { ⌜ InRange (now coefs) ⌝ }
+    ensures { λ r. ⌜ r ≡ evenSum (now (coefs .entry)) ⌝ }
 {
-    if n % 2 == 0 { c } else { -c }
+    let mut sum = coefs[0];
+    let mut i = 1;
+    while i < 7 {
+        sum += coefs[2 * i];
+        i += 1;
+    }
+    sum
 }
 
-// The value at a segment's first second: the coefficients with their signs in turn.
+// c1 + c3 + .. + c13.
+pub fn odd_sum(coefs: &[i64]) -> i64
+    requires { do ⌜ (← ⟦coefs.len()⟧) ≡ 14 ⌝ }
+    requires { ⌜ InRange (now coefs) ⌝ }
+    ensures { λ r. ⌜ r ≡ oddSum (now (coefs .entry)) ⌝ }
+{
+    let mut sum = coefs[1];
+    let mut i = 1;
+    while i < 7 {
+        sum += coefs[2 * i + 1];
+        i += 1;
+    }
+    sum
+}
+
+// The value at a segment's first second, by its closed form (`first-value`).
 pub fn first_value(coefs: &[i64]) -> i64
     requires { do ⌜ (← ⟦coefs.len()⟧) ≡ 14 ⌝ }
     requires { ⌜ InRange (now coefs) ⌝ }
     ensures { λ r. ⌜ r ≡ segment.value (now (coefs .entry)) (negℤ (pos S)) ⌝ }
 {
-    let mut sum = coefs[0];
-    let mut n = 1;
-    while n < 14 {
-        sum += turned(coefs[n], n);
-        n += 1;
-    }
-    sum
-}
-
-// The sum of the coefficients.
-pub fn plain_sum(coefs: &[i64]) -> i64
-    requires { do ⌜ (← ⟦coefs.len()⟧) ≡ 14 ⌝ }
-    requires { ⌜ InRange (now coefs) ⌝ }
-    ensures { λ r. ⌜ r ≡ plainSum (now (coefs .entry)) ⌝ }
-{
-    let mut sum = coefs[0];
-    let mut n = 1;
-    while n < 14 {
-        sum += coefs[n];
-        n += 1;
-    }
-    sum
+    whole::inner::subtract(even_sum(coefs), odd_sum(coefs))
 }
 
 // n² times a coefficient.

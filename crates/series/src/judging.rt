@@ -68,9 +68,10 @@ fn last_value(body: Body, part: &[i64]) -> i64
     requires { ⌜ InRange (now part) ⌝ }
     ensures { λ r. ⌜ r ≡ value (now (part .entry)) (pos S -ℤ pos (numbers body .step)) ⌝ }
 {
+    let even = chebyshev::inner::even_sum(part);
+    let odd = chebyshev::inner::odd_sum(part);
     let down = whole::inner::subtract(0, chebyshev::inner::square_sum(part));
-    let sum = chebyshev::inner::plain_sum(part);
-    whole::inner::add(sum, floor_by_half(body, down))
+    whole::inner::add(whole::inner::add(even, odd), floor_by_half(body, down))
 }
 
 // Whether a segment rises too slowly.

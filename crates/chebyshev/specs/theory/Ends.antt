@@ -10,10 +10,48 @@ use Rattle.whole.specs.Solver.{⇑, ⇓, ring}
 use Rattle.whole.specs.Floor.{floorDiv, floorMod, floorDiv-floorMod, floorMod-lt, floorDiv-unique, floorDiv-add}
 use Rattle.chebyshev.specs.Polynomials.{S, P}
 use Rattle.chebyshev.specs.Segment.{coefficient, sum, value}
-use Rattle.chebyshev.specs.EndValues.{turn, firstValue, plainSum, squareSum, lastValue}
+use Rattle.chebyshev.specs.EndValues.{evenSum, oddSum, squareSum, firstValue, lastValue}
 use Rattle.chebyshev.specs.theory.Sums.{sum-linear}
 
+-- ---- a sum by pairs: c1, then c2 and c3, ..
+pairs : (f : ℕ → ℤ) (m : ℕ) → sum 1 (suc (2 * m)) f ≡ f 1 +ℤ (sum 1 m (λ (i : ℕ). f (2 * i)) +ℤ sum 1 m (λ (i : ℕ). f (2 * i + 1)))
+unfolding sum
+pairs f zero = ⇑ (f 1 ∷ []) (search ring depth 9) refl
+pairs f (suc m) =
+    let more : suc (2 * suc m) ≡ suc (suc (suc (2 * m))) = omega arith in
+    let even : 1 + suc (2 * m) ≡ 2 * (1 + m) = omega arith in
+    let odd : 1 + suc (suc (2 * m)) ≡ 2 * (1 + m) + 1 = omega arith in
+    let x = f (2 * (1 + m)) in
+    let y = f (2 * (1 + m) + 1) in
+    let e = sum 1 m (λ (i : ℕ). f (2 * i)) in
+    let o = sum 1 m (λ (i : ℕ). f (2 * i + 1)) in
+    let ρ = sum 1 (suc (2 * m)) f ∷ f 1 ∷ e ∷ o ∷ x ∷ y ∷ [] in
+    ap (λ (n : ℕ). sum 1 n f) more
+    ∙ ap₂ (λ (j k : ℕ). sum 1 (suc (2 * m)) f +ℤ f j +ℤ f k) even odd
+    ∙ ⇑ ρ (search ring depth 9) (omega (arith, ⇓ ρ (pairs f m) (search ring depth 9)))
+
 -- ---- the polynomials there
+
+-- 1, -1, 1, -1, ..
+unfoldable turn : ℕ → ℤ
+turn zero = pos 1
+turn (suc n) = negℤ (turn n)
+
+turn-even : (i : ℕ) → turn (2 * i) ≡ pos 1
+unfolding turn
+turn-even zero = refl
+turn-even (suc i) = ap turn two-more ∙ ap (λ (z : ℤ). negℤ (negℤ z)) (turn-even i)
+  where
+    two-more : 2 * suc i ≡ suc (suc (2 * i))
+    two-more = omega arith
+
+turn-odd : (i : ℕ) → turn (2 * i + 1) ≡ negℤ (pos 1)
+unfolding turn
+turn-odd i = ap turn one-more ∙ ap negℤ (turn-even i)
+  where
+    one-more : 2 * i + 1 ≡ suc (2 * i)
+    one-more = omega arith
+
 module _ (s : ℕ) (some : 0 < s) where
   first-step : (n : ℕ) → P s (negℤ (pos s)) n ≡ turn n *ℤ pos s → P s (negℤ (pos s)) (suc n) ≡ turn (suc n) *ℤ pos s → P s (negℤ (pos s)) (suc (suc n)) ≡ turn (suc (suc n)) *ℤ pos s
   unfolding P turn
@@ -63,8 +101,39 @@ floorDiv-scaled z m q h k =
     (⇑ ρ (search ring depth 12) (omega (arith, ⇓ ρ (ap (λ (y : ℤ). pos q *ℤ y) (floorDiv-floorMod z m h)) (search ring depth 12))))
 
 -- ---- the values there
+-- c0 - c1 + c2 - .. - c13 by signs, and by the two sums
+signed-is : (c : List ℤ) → coefficient c 0 +ℤ sum 1 13 (λ (n : ℕ). coefficient c n *ℤ turn n) ≡ firstValue c
+unfolding firstValue evenSum oddSum
+signed-is c =
+    let g : ℕ → ℤ = λ (n : ℕ). coefficient c n *ℤ turn n in
+    let e = sum 1 6 (λ (i : ℕ). coefficient c (2 * i)) in
+    let o = sum 1 6 (λ (i : ℕ). coefficient c (2 * i + 1)) in
+    let e′ = sum 1 6 (λ (i : ℕ). g (2 * i)) in
+    let o′ = sum 1 6 (λ (i : ℕ). g (2 * i + 1)) in
+    let evens : pos 1 *ℤ e′ ≡ pos 1 *ℤ e +ℤ pos 0 *ℤ e = sum-linear (pos 1) (pos 1) (pos 0) 1 6 (λ (i : ℕ). g (2 * i)) (λ (i : ℕ). coefficient c (2 * i)) (λ (i : ℕ). coefficient c (2 * i)) (λ i l u. times-one (coefficient c (2 * i)) (turn (2 * i)) (turn-even i)) in
+    let odds : pos 1 *ℤ o′ ≡ negℤ (pos 1) *ℤ o +ℤ pos 0 *ℤ o = sum-linear (pos 1) (negℤ (pos 1)) (pos 0) 1 6 (λ (i : ℕ). g (2 * i + 1)) (λ (i : ℕ). coefficient c (2 * i + 1)) (λ (i : ℕ). coefficient c (2 * i + 1)) (λ i l u. times-minus-one (coefficient c (2 * i + 1)) (turn (2 * i + 1)) (turn-odd i)) in
+    let one : g 1 ≡ negℤ (coefficient c 1) = minus (coefficient c 1) (turn 1) (turn-odd 0) in
+    let ρ = coefficient c 0 ∷ coefficient c 1 ∷ e ∷ o ∷ e′ ∷ o′ ∷ g 1 ∷ sum 1 13 g ∷ [] in
+    ⇑ ρ (search ring depth 9)
+    (omega (
+      arith,
+      ⇓ ρ (pairs g 6) (search ring depth 9),
+      ⇓ ρ evens (search ring depth 9),
+      ⇓ ρ odds (search ring depth 9),
+      ⇓ ρ one (search ring depth 9),
+    ))
+  where
+    times-one : (z t : ℤ) → t ≡ pos 1 → pos 1 *ℤ (z *ℤ t) ≡ pos 1 *ℤ z +ℤ pos 0 *ℤ z
+    times-one z t e = rw e (⇑ (z ∷ []) (search ring depth 12) refl)
+
+    times-minus-one : (z t : ℤ) → t ≡ negℤ (pos 1) → pos 1 *ℤ (z *ℤ t) ≡ negℤ (pos 1) *ℤ z +ℤ pos 0 *ℤ z
+    times-minus-one z t e = rw e (⇑ (z ∷ []) (search ring depth 12) refl)
+
+    minus : (z t : ℤ) → t ≡ negℤ (pos 1) → z *ℤ t ≡ negℤ z
+    minus z t e = rw e (⇑ (z ∷ []) (search ring depth 12) refl)
+
 pub first-is : (c : List ℤ) → value c (negℤ (pos S)) ≡ firstValue c
-unfolding value firstValue
+unfolding value
 first-is c =
     let v = negℤ (pos S) in
     let f : ℕ → ℤ = λ (n : ℕ). coefficient c n *ℤ P S v n in
@@ -78,11 +147,11 @@ first-is c =
     in
     let ρ = a ∷ b ∷ [] in
     let is : a ≡ b *ℤ pos S +ℤ pos 0 = ⇑ ρ (search ring depth 9) (omega (arith, ⇓ ρ (sum-linear (pos 1) (pos S) (pos 0) 1 13 f g g each) (search ring depth 9))) in
-    ap (λ (z : ℤ). coefficient c 0 +ℤ z) (floorDiv-unique a b S 0 (lit< tt) is)
+    ap (λ (z : ℤ). coefficient c 0 +ℤ z) (floorDiv-unique a b S 0 (lit< tt) is) ∙ signed-is c
 
 pub last-is : (c : List ℤ) (q H : ℕ) → q * H ≡ S → 2 * (q * q) * 144 < S → value c (pos S -ℤ pos q) ≡ lastValue H c
-unfolding value plainSum squareSum lastValue
-last-is c q H e few =
+unfolding value evenSum oddSum squareSum lastValue
+last-is c q H step few =
     let x = pos S -ℤ pos q in
     let f : ℕ → ℤ = λ (n : ℕ). coefficient c n *ℤ P S x n in
     let h : ℕ → ℤ = λ (n : ℕ). coefficient c n *ℤ pos (n * n) in
@@ -97,10 +166,13 @@ last-is c q H e few =
     let ρ = a ∷ b ∷ d ∷ pos q ∷ [] in
     let is : a ≡ pos q *ℤ negℤ d +ℤ b *ℤ pos S = ⇑ ρ (search ring depth 9) (omega (arith, ⇓ ρ (sum-linear (pos 1) (pos S) (negℤ (pos q)) 1 13 f (coefficient c) h each) (search ring depth 9))) in
     let quotient : floorDiv a S ≡ floorDiv (negℤ d) H +ℤ b =
-    ap (λ (z : ℤ). floorDiv z S) is ∙ floorDiv-add (pos q *ℤ negℤ d) b S (lit< tt) ∙ ap (λ (z : ℤ). z +ℤ b) (ap (floorDiv (pos q *ℤ negℤ d)) (sym e) ∙ floorDiv-scaled (negℤ d) H q (some-right q H e) (some-left q H e))
+    ap (λ (z : ℤ). floorDiv z S) is ∙ floorDiv-add (pos q *ℤ negℤ d) b S (lit< tt) ∙ ap (λ (z : ℤ). z +ℤ b) (ap (floorDiv (pos q *ℤ negℤ d)) (sym step) ∙ floorDiv-scaled (negℤ d) H q (some-right q H step) (some-left q H step))
     in
-    let σ = coefficient c 0 ∷ b ∷ floorDiv (negℤ d) H ∷ [] in
-    ap (λ (z : ℤ). coefficient c 0 +ℤ z) quotient ∙ ⇑ σ (search ring depth 9) refl
+    let e = sum 1 6 (λ (i : ℕ). coefficient c (2 * i)) in
+    let o = sum 1 6 (λ (i : ℕ). coefficient c (2 * i + 1)) in
+    let σ = coefficient c 0 ∷ coefficient c 1 ∷ e ∷ o ∷ b ∷ floorDiv (negℤ d) H ∷ [] in
+    ap (λ (z : ℤ). coefficient c 0 +ℤ z) quotient
+    ∙ ⇑ σ (search ring depth 9) (omega (arith, ⇓ σ (pairs (coefficient c) 6) (search ring depth 9)))
   where
     at : (n : ℕ) → n < 14 → P S (pos S -ℤ pos q) n ≡ pos S -ℤ pos q *ℤ pos (n * n)
     at zero u = last-both S (lit< tt) q few 0 (omega arith) .0

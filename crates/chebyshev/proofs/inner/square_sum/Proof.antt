@@ -25,13 +25,13 @@ each : {coefs : List ℤ} → InRange coefs → (n : ℕ) → 1 ≤ n → n < 14
 each r n l h = omega (arith, square-small r n l h)
 
 abbrev Inv-loop : tie.InvT-loop
-Inv-loop coefs sum₀ n₀ sum n = Running (pos 0) (term coefs) (toZ w64 sum) n
+Inv-loop coefs sum₀ n₀ sum n = Running 14 (pos 0) (term coefs) (toZ w64 sum) n
 
 abbrev μ-loop : tie.MeasureT-loop
 μ-loop coefs sum₀ n₀ sum n = 14 - n
 
 loop-holds : tie.Need-loop-holds Inv-loop μ-loop
-loop-holds c = running-start
+loop-holds c = running-start (omega arith)
 
 mul-squared : tie.Need-mul-squared Inv-loop μ-loop
 mul-squared c = search needs
@@ -55,7 +55,7 @@ add-sum : tie.Need-add-sum Inv-loop μ-loop
 add-sum c =
     let l = c .before .before .before in
     let r = l .before .pre .1 in
-    rw (made c) (running-fits (l .loop .inv) (omega arith) (record { within = omega arith }) (each r))
+    rw (made c) (running-fits (l .loop .inv) (omega arith) (omega arith) (record { within = omega arith }) (each r))
 
 add-n : tie.Need-add-n Inv-loop μ-loop
 add-n c = search needs
