@@ -78,7 +78,7 @@ static inline int shape(bool moon, int64_t start, size_t count) {
     return 0;
 }
 
-/* Acceptance as the proved code judges it: one pass, the first and the last value of a segment by their closed forms. */
+/* Acceptance as the proved code judges it: one pass, a segment's first and last value by closed forms that share two sums. */
 static inline bool out_of_range(const int64_t *c) {
     for (size_t n = 0; n < 14; n++)
         if ((n == 0 ? 1000000000000000u : 4000000000u) < absolute(c[n])) return 1;
@@ -103,17 +103,16 @@ static inline int64_t square_sum(const int64_t *c) {
     return sum;
 }
 
-static inline int64_t first_value(const int64_t *c) {
-    return even_sum(c) - odd_sum(c);
-}
-
 static inline int64_t floor_by_half(bool moon, int64_t t) {
     if (moon) return (int64_t)((uint64_t)(t + 11596411699200) / 172800) - 67108864;
     return (int64_t)((uint64_t)(t + 11596411699200) / 1382400) - 8388608;
 }
 
-static inline int64_t last_value(bool moon, const int64_t *c) {
-    return even_sum(c) + odd_sum(c) + floor_by_half(moon, -square_sum(c));
+typedef struct { int64_t first, last; } ends;
+
+static inline ends ends_of(bool moon, const int64_t *c) {
+    int64_t even = even_sum(c), odd = odd_sum(c);
+    return (ends){even - odd, even + odd + floor_by_half(moon, -square_sum(c))};
 }
 
 static inline size_t first_of(size_t kept, size_t count, bool bad, size_t k) {
@@ -129,9 +128,10 @@ static int accept(bool moon, int64_t start, const int64_t *coefs, size_t count) 
         const int64_t *c = coefs + 14 * k;
         if (out_of_range(c)) return 3;
         slow = first_of(slow, segments, segment_slope(c) < least, k);
-        int64_t rise = first_value(c) - last;
+        ends e = ends_of(moon, c);
+        int64_t rise = e.first - last;
         joint = first_of(joint, segments, k != 0 && (rise < 200 || 100000 < rise), k);
-        last = last_value(moon, c);
+        last = e.last;
     }
     return slow < segments ? 4 : joint < segments ? 5 : 0;
 }

@@ -1,7 +1,8 @@
-// One segment: its range, its value at a place, its slope, and the sums that give its first and last value. Callers show the range (refusal 3) and the place.
+// One segment: its range, its value at a place, its slope, and the sums of the closed forms of its first and last value. Callers show the range (refusal 3) and
+// the place.
 ghost use mathlib.Core.Path.{_≡_};
 ghost use Prim.Native.Nat.{_*_, _<_};
-ghost use lib.IntN.{pos, negℤ, natAbs, _-ℤ_, _*ℤ_};
+ghost use lib.IntN.{pos, natAbs, _-ℤ_, _*ℤ_};
 ghost use Rattle.whole.specs.Floor.{floorDiv};
 ghost use Rattle.whole.specs.Ranges.{Within};
 ghost use Rattle.chebyshev.specs.Polynomials.{S};
@@ -131,15 +132,6 @@ pub fn odd_sum(coefs: &[i64]) -> i64
         i += 1;
     }
     sum
-}
-
-// The value at a segment's first second, by its closed form (`first-value`).
-pub fn first_value(coefs: &[i64]) -> i64
-    requires { do ⌜ (← ⟦coefs.len()⟧) ≡ 14 ⌝ }
-    requires { ⌜ InRange (now coefs) ⌝ }
-    ensures { λ r. ⌜ r ≡ segment.value (now (coefs .entry)) (negℤ (pos S)) ⌝ }
-{
-    whole::inner::subtract(even_sum(coefs), odd_sum(coefs))
 }
 
 // n² times a coefficient.

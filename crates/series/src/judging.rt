@@ -62,16 +62,29 @@ fn floor_by_half(body: Body, t: i64) -> i64
     }
 }
 
-// The value at a segment's last second, by its closed form (`last-value`).
-fn last_value(body: Body, part: &[i64]) -> i64
+// The values at a segment's first and last second.
+struct Ends {
+    first: i64,
+    last: i64,
+}
+
+// Both by their closed forms (`first-value`, `last-value`), which share two sums.
+fn ends_of(body: Body, part: &[i64]) -> Ends
     requires { do ⌜ (← ⟦part.len()⟧) ≡ 14 ⌝ }
     requires { ⌜ InRange (now part) ⌝ }
-    ensures { λ r. ⌜ r ≡ value (now (part .entry)) (pos S -ℤ pos (numbers body .step)) ⌝ }
+    ensures { λ r. ⌜ r .first ≡ value (now (part .entry)) (negℤ (pos S)) ⌝ }
+    ensures { λ r. ⌜ r .last ≡ value (now (part .entry)) (pos S -ℤ pos (numbers body .step)) ⌝ }
 {
     let even = chebyshev::inner::even_sum(part);
     let odd = chebyshev::inner::odd_sum(part);
     let down = whole::inner::subtract(0, chebyshev::inner::square_sum(part));
-    whole::inner::add(whole::inner::add(even, odd), floor_by_half(body, down))
+    let first = whole::inner::subtract(even, odd);
+    let sum = whole::inner::add(even, odd);
+    let last = whole::inner::add(sum, floor_by_half(body, down));
+    Ends {
+        first: first,
+        last: last,
+    }
 }
 
 // Whether a segment rises too slowly.
@@ -84,17 +97,16 @@ fn too_slow(body: Body, part: &[i64]) -> bool
     chebyshev::inner::slope(part) < least
 }
 
-// Whether segment k does not join the one before it, whose last value is `last`. Segment 0 joins none.
-fn joins_badly(k: usize, last: i64, part: &[i64]) -> bool
-    requires { do ⌜ (← ⟦part.len()⟧) ≡ 14 ⌝ }
-    requires { ⌜ InRange (now part) ⌝ }
+// Whether segment k, which begins with the value `first`, does not join the one before it, which ends with `last`. Segment 0 joins none.
+fn joins_badly(k: usize, last: i64, first: i64) -> bool
     requires { ⌜ Within 1000100000000000 last ⌝ }
-    ensures { λ r. ⌜ r ≡ cond (eqb k 0) false (badRise (value (now (part .entry)) (negℤ (pos S)) -ℤ last)) ⌝ }
+    requires { ⌜ Within 1000100000000000 first ⌝ }
+    ensures { λ r. ⌜ r ≡ cond (eqb k 0) false (badRise (first -ℤ last)) ⌝ }
 {
+    let rise = whole::inner::subtract(first, last);
     if k == 0 {
         return false;
     }
-    let rise = whole::inner::subtract(chebyshev::inner::first_value(part), last);
     rise < 200 || 100000 < rise
 }
 
@@ -145,8 +157,9 @@ pub fn each_segment(body: Body, coefs: &[i64]) -> Check
             });
         }
         slow = first_of(slow, count, too_slow(body, part), k);
-        joint = first_of(joint, count, joins_badly(k, last, part), k);
-        last = last_value(body, part);
+        let ends = ends_of(body, part);
+        joint = first_of(joint, count, joins_badly(k, last, ends.first), k);
+        last = ends.last;
         k += 1;
     }
     kept_refusal(count, slow, joint)

@@ -5,16 +5,21 @@ use mathlib.Core.Bool.{false}
 use mathlib.Core.List.{List}
 use Prim.Native.Nat.{ℕ, _-_, _<_}
 use native.Mathlib.Omega.{arith}
-use lib.IntN.{ℤ}
+use lib.IntN.{ℤ, pos, negℤ, _-ℤ_}
 use lib.ListN.{length}
 use mir.Syntax.{w64}
-use mir.Val.{toZ}
-use Rattle.whole.specs.Ranges.{back}
-use Rattle.chebyshev.specs.Segment.{InRange}
+use mir.Val.{ofZ, toZ}
+use mir.Facts.{toZ-ofZ}
+use Rattle.whole.specs.Ranges.{fit-hyp}
+use Rattle.chebyshev.specs.Polynomials.{S}
+use Rattle.chebyshev.specs.Segment.{value, InRange}
+use Rattle.chebyshev.specs.Theorems.{value-bound}
 use Rattle.series.specs.Series.{segment, segments}
 use Rattle.series.specs.declared.Body.{Body}
-use Rattle.series.specs.Acceptance.{badRange}
+use Rattle.series.specs.Bodies.{numbers}
+use Rattle.series.specs.Acceptance.{badRange, slow}
 use Rattle.series.specs.theory.Known.{segment-length}
+use Rattle.series.specs.theory.Span.{first-within, last-within}
 use Rattle.series.proofs.Pass.{Passed, pass-start, pass-refused, pass-end, pass-turn, part-in-range}
 use Rattle.series.proofs.judging.each_segment.Statement.{statement}
 use Rattle.series.proofs.judging.each_segment.Tie as tie
@@ -25,7 +30,7 @@ use Rattle.series.proofs.inner.segment_of.Reads as segment-of-reads
 use Rattle.series.proofs.judging.first_of.Reads as first-of-reads
 use Rattle.series.proofs.judging.joins_badly.Reads as joins-badly-reads
 use Rattle.series.proofs.judging.kept_refusal.Reads as kept-refusal-reads
-use Rattle.series.proofs.judging.last_value.Reads as last-value-reads
+use Rattle.series.proofs.judging.ends_of.Reads as ends-of-reads
 use Rattle.series.proofs.judging.too_slow.Reads as too-slow-reads
 
 abbrev Inv-loop : tie.InvT-loop
@@ -35,7 +40,7 @@ abbrev μ-loop : tie.MeasureT-loop
 μ-loop body coefs count slow₀ joint₀ last₀ k₀ slow joint last k = segments coefs - k
 
 abbrev called : lts.Claims
-called = (segment-of-reads.Asked, segment-of-reads.Learnt, out-of-range-reads.Asked, out-of-range-reads.Learnt, too-slow-reads.Asked, too-slow-reads.Learnt, first-of-reads.Asked, first-of-reads.Learnt, joins-badly-reads.Asked, joins-badly-reads.Learnt, last-value-reads.Asked, last-value-reads.Learnt, kept-refusal-reads.Asked, kept-refusal-reads.Learnt)
+called = (segment-of-reads.Asked, segment-of-reads.Learnt, out-of-range-reads.Asked, out-of-range-reads.Learnt, too-slow-reads.Asked, too-slow-reads.Learnt, first-of-reads.Asked, first-of-reads.Learnt, ends-of-reads.Asked, ends-of-reads.Learnt, joins-badly-reads.Asked, joins-badly-reads.Learnt, kept-refusal-reads.Asked, kept-refusal-reads.Learnt)
 
 -- ---- where the range of segment k is judged
 
@@ -64,8 +69,33 @@ module _ (c : lts.Else1 called reads.Pre reads.Post Inv-loop μ-loop) where
   at-good : badRange (coefs-of (c .before)) (k-of (c .before)) ≡ false
   at-good = sym (at-judged (c .before)) ∙ c .if1 .left
 
+  at-range : InRange (segment (coefs-of (c .before)) (k-of (c .before)))
+  at-range = part-in-range (body-of (c .before)) (coefs-of (c .before)) (c .before .before .before .before .loop .inv) (at-below (c .before)) at-good
+
   at-segment : (length (c .before .before .segment-of .result .now) ≡ 14) × InRange (c .before .before .segment-of .result .now)
-  at-segment = rw (at-part (c .before)) (segment-length (coefs-of (c .before)) (k-of (c .before)) (at-below (c .before)), part-in-range (body-of (c .before)) (coefs-of (c .before)) (c .before .before .before .before .loop .inv) (at-below (c .before)) at-good)
+  at-segment = rw (at-part (c .before)) (segment-length (coefs-of (c .before)) (k-of (c .before)) (at-below (c .before)), at-range)
+
+at-slope : (c : lts.After-too-slow called reads.Pre reads.Post Inv-loop μ-loop) → (let judged = c .before .before in c .too-slow .result ≡ slow (body-of judged) (coefs-of judged) (k-of judged))
+at-slope c = rw (at-part (c .before .before)) at (c .too-slow .ensures)
+
+-- ---- where its ends are known
+
+module _ (c : lts.After-ends-of called reads.Pre reads.Post Inv-loop μ-loop) where
+  abbrev good-of : lts.Else1 called reads.Pre reads.Post Inv-loop μ-loop
+  good-of = c .before .before .before
+
+  abbrev part-of : List ℤ
+  part-of = segment (coefs-of (good-of .before)) (k-of (good-of .before))
+
+  at-first : toZ w64 (ofZ w64 (c .ends-of .result .first)) ≡ value part-of (negℤ (pos S))
+  at-first =
+      let is : c .ends-of .result .first ≡ value part-of (negℤ (pos S)) = rw (at-part (good-of .before)) at (c .ends-of .ensures .0) in
+      toZ-ofZ (rw is (fit-hyp (value-bound (at-range good-of) first-within) tt)) ∙ is
+
+  at-last : toZ w64 (ofZ w64 (c .ends-of .result .last)) ≡ value part-of (pos S -ℤ pos (numbers (body-of (good-of .before)) .step))
+  at-last =
+      let is : c .ends-of .result .last ≡ value part-of (pos S -ℤ pos (numbers (body-of (good-of .before)) .step)) = rw (at-part (good-of .before)) at (c .ends-of .ensures .1) in
+      toZ-ofZ (rw is (fit-hyp (value-bound (at-range good-of) (last-within (body-of (good-of .before)))) tt)) ∙ is
 
 -- ---- the needs
 
@@ -89,31 +119,30 @@ too-slow-requires c κs = at-segment c
 first-of-requires : tie.Need-first-of-requires Inv-loop μ-loop
 first-of-requires c κs = search needs
 
+ends-of-requires : tie.Need-ends-of-requires Inv-loop μ-loop
+ends-of-requires c κs = at-segment (c .before .before)
+
 joins-badly-requires : tie.Need-joins-badly-requires Inv-loop μ-loop
 joins-badly-requires c κs =
-    let good = c .before .before in
-    let segment-good = at-segment good in
-    (segment-good .0, (segment-good .1, good .before .before .before .before .loop .inv .last-small))
+    let good = good-of (c .before) in
+    (good .before .before .before .before .loop .inv .last-small, rw (at-first (c .before)) (value-bound (at-range good) first-within))
 
 first-of-requires-2 : tie.Need-first-of-requires-2 Inv-loop μ-loop
 first-of-requires-2 c κs = search needs
 
-last-value-requires : tie.Need-last-value-requires Inv-loop μ-loop
-last-value-requires c κs = at-segment (c .before .before .before .before)
-
 add-k : tie.Need-add-k Inv-loop μ-loop
-add-k c = let below = at-below (c .before .before .before .before .before .before) in record { fits = omega arith }
+add-k c = let below = at-below (good-of (c .before .before .before .before) .before) in record { fits = omega arith }
 
 loop-less : tie.Need-loop-less Inv-loop μ-loop
-loop-less c = let below = at-below (c .before .before .before .before .before .before) in omega arith
+loop-less c = let below = at-below (good-of (c .before .before .before .before) .before) in omega arith
 
 loop-again : tie.Need-loop-again Inv-loop μ-loop
 loop-again c =
     let joint-kept = c .before in
-    let slow-kept = joint-kept .before .before in
-    let good = slow-kept .before .before in
-    let judged = good .before in
-    rw (slow-kept .first-of .ensures, slow-kept .before .too-slow .ensures, joint-kept .first-of2 .ensures, joint-kept .before .joins-badly .ensures, back (c .last-value .result) (c .last-value .ok), c .last-value .ensures, at-part judged) (pass-turn (body-of judged) (coefs-of judged) (judged .before .before .before .loop .inv) (at-below judged) (at-good good))
+    let ends = joint-kept .before .before .before in
+    let slow-kept = ends .before in
+    let judged = good-of ends .before in
+    rw (slow-kept .first-of .ensures, at-slope (slow-kept .before), joint-kept .first-of2 .ensures, joint-kept .before .joins-badly .ensures, at-first ends, at-last ends) (pass-turn (body-of judged) (coefs-of judged) (judged .before .before .before .loop .inv) (at-below judged) (at-good (good-of ends)))
 
 kept-refusal-requires : tie.Need-kept-refusal-requires Inv-loop μ-loop
 kept-refusal-requires c κs = search needs
@@ -135,9 +164,9 @@ each-segment-spec =
     returns
     too-slow-requires
     first-of-requires
+    ends-of-requires
     joins-badly-requires
     first-of-requires-2
-    last-value-requires
     add-k
     loop-less
     loop-again
