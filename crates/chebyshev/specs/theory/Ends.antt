@@ -33,50 +33,50 @@ pairs f (suc m) =
 -- ---- the polynomials there
 
 -- 1, -1, 1, -1, ..
-unfoldable turn : ℕ → ℤ
-turn zero = pos 1
-turn (suc n) = negℤ (turn n)
+unfoldable sign : ℕ → ℤ
+sign zero = pos 1
+sign (suc n) = negℤ (sign n)
 
-turn-even : (i : ℕ) → turn (2 * i) ≡ pos 1
-unfolding turn
-turn-even zero = refl
-turn-even (suc i) = ap turn two-more ∙ ap (λ (z : ℤ). negℤ (negℤ z)) (turn-even i)
+sign-even : (i : ℕ) → sign (2 * i) ≡ pos 1
+unfolding sign
+sign-even zero = refl
+sign-even (suc i) = ap sign two-more ∙ ap (λ (z : ℤ). negℤ (negℤ z)) (sign-even i)
   where
     two-more : 2 * suc i ≡ suc (suc (2 * i))
     two-more = omega arith
 
-turn-odd : (i : ℕ) → turn (2 * i + 1) ≡ negℤ (pos 1)
-unfolding turn
-turn-odd i = ap turn one-more ∙ ap negℤ (turn-even i)
+sign-odd : (i : ℕ) → sign (2 * i + 1) ≡ negℤ (pos 1)
+unfolding sign
+sign-odd i = ap sign one-more ∙ ap negℤ (sign-even i)
   where
     one-more : 2 * i + 1 ≡ suc (2 * i)
     one-more = omega arith
 
 module _ (s : ℕ) (some : 0 < s) where
-  first-step : (n : ℕ) → P s (negℤ (pos s)) n ≡ turn n *ℤ pos s → P s (negℤ (pos s)) (suc n) ≡ turn (suc n) *ℤ pos s → P s (negℤ (pos s)) (suc (suc n)) ≡ turn (suc (suc n)) *ℤ pos s
-  unfolding P turn
+  first-step : (n : ℕ) → P s (negℤ (pos s)) n ≡ sign n *ℤ pos s → P s (negℤ (pos s)) (suc n) ≡ sign (suc n) *ℤ pos s → P s (negℤ (pos s)) (suc (suc n)) ≡ sign (suc (suc n)) *ℤ pos s
+  unfolding P sign
   first-step n a b =
       let t = pos 2 *ℤ negℤ (pos s) *ℤ P s (negℤ (pos s)) (suc n) in
-      let ρ = pos s ∷ turn n ∷ P s (negℤ (pos s)) n ∷ P s (negℤ (pos s)) (suc n) ∷ [] in
-      let is : t ≡ pos 2 *ℤ turn n *ℤ pos s *ℤ pos s +ℤ pos 0 = ap (λ (z : ℤ). pos 2 *ℤ negℤ (pos s) *ℤ z) b ∙ ⇑ ρ (search ring depth 12) refl in
-      let q : floorDiv t s ≡ pos 2 *ℤ turn n *ℤ pos s = floorDiv-unique t (pos 2 *ℤ turn n *ℤ pos s) s 0 some is in
+      let ρ = pos s ∷ sign n ∷ P s (negℤ (pos s)) n ∷ P s (negℤ (pos s)) (suc n) ∷ [] in
+      let is : t ≡ pos 2 *ℤ sign n *ℤ pos s *ℤ pos s +ℤ pos 0 = ap (λ (z : ℤ). pos 2 *ℤ negℤ (pos s) *ℤ z) b ∙ ⇑ ρ (search ring depth 12) refl in
+      let q : floorDiv t s ≡ pos 2 *ℤ sign n *ℤ pos s = floorDiv-unique t (pos 2 *ℤ sign n *ℤ pos s) s 0 some is in
       ap₂ (λ (x y : ℤ). x -ℤ y) q a ∙ ⇑ ρ (search ring depth 12) refl
 
-  first-both : (n : ℕ) → (P s (negℤ (pos s)) n ≡ turn n *ℤ pos s) × (P s (negℤ (pos s)) (suc n) ≡ turn (suc n) *ℤ pos s)
-  first-both zero = (unfold P turn in ⇑ (pos s ∷ []) (search ring depth 9) refl, unfold P turn in ⇑ (pos s ∷ []) (search ring depth 9) refl)
+  first-both : (n : ℕ) → (P s (negℤ (pos s)) n ≡ sign n *ℤ pos s) × (P s (negℤ (pos s)) (suc n) ≡ sign (suc n) *ℤ pos s)
+  first-both zero = (unfold P sign in ⇑ (pos s ∷ []) (search ring depth 9) refl, unfold P sign in ⇑ (pos s ∷ []) (search ring depth 9) refl)
   first-both (suc n) = let both = first-both n in (both .1, first-step n (both .0) (both .1))
 
   module _ (q : ℕ) (few : 2 * (q * q) * 144 < s) where
     abbrev falling : ℕ → ℤ
     falling n = pos s -ℤ pos q *ℤ pos (n * n)
 
-    abbrev whole : ℕ → ℤ
-    whole m = pos 2 *ℤ pos s -ℤ pos 2 *ℤ pos q -ℤ pos 2 *ℤ pos q *ℤ pos (m * m)
+    abbrev wholePart : ℕ → ℤ
+    wholePart m = pos 2 *ℤ pos s -ℤ pos 2 *ℤ pos q -ℤ pos 2 *ℤ pos q *ℤ pos (m * m)
 
-    split : (m : ℕ) → pos 2 *ℤ (pos s -ℤ pos q) *ℤ falling m ≡ whole m *ℤ pos s +ℤ pos (2 * (q * q) * (m * m))
+    split : (m : ℕ) → pos 2 *ℤ (pos s -ℤ pos q) *ℤ falling m ≡ wholePart m *ℤ pos s +ℤ pos (2 * (q * q) * (m * m))
     split m = ⇑ (pos s ∷ pos q ∷ pos m ∷ []) (search ring depth 20) refl
 
-    next : (n m k : ℕ) → m ≡ n + 1 → k ≡ n + 2 → whole m -ℤ falling n ≡ falling k
+    next : (n m k : ℕ) → m ≡ n + 1 → k ≡ n + 2 → wholePart m -ℤ falling n ≡ falling k
     next n m k e f = rw (e, f) (⇑ (pos s ∷ pos q ∷ pos n ∷ []) (search ring depth 20) refl)
 
     last-step : (n : ℕ) → suc n ≤ 12 → P s (pos s -ℤ pos q) n ≡ falling n → P s (pos s -ℤ pos q) (suc n) ≡ falling (suc n) → P s (pos s -ℤ pos q) (suc (suc n)) ≡ falling (suc (suc n))
@@ -84,7 +84,7 @@ module _ (s : ℕ) (some : 0 < s) where
     last-step n h a b =
         let x = pos s -ℤ pos q in
         let t = pos 2 *ℤ x *ℤ P s x (suc n) in
-        ap₂ (λ (y z : ℤ). y -ℤ z) (floorDiv-unique t (whole (suc n)) s (2 * (q * q) * (suc n * suc n)) (less (suc n) h) (ap (λ (z : ℤ). pos 2 *ℤ x *ℤ z) b ∙ split (suc n))) a ∙ next n (suc n) (suc (suc n)) (omega arith) (omega arith)
+        ap₂ (λ (y z : ℤ). y -ℤ z) (floorDiv-unique t (wholePart (suc n)) s (2 * (q * q) * (suc n * suc n)) (less (suc n) h) (ap (λ (z : ℤ). pos 2 *ℤ x *ℤ z) b ∙ split (suc n))) a ∙ next n (suc n) (suc (suc n)) (omega arith) (omega arith)
       where
         less : (m : ℕ) → m ≤ 12 → 2 * (q * q) * (m * m) < s
         less m l = omega (arith, mul-le-mul (le-refl (2 * (q * q))) (mul-le-mul l l))
@@ -94,7 +94,7 @@ module _ (s : ℕ) (some : 0 < s) where
     last-both (suc n) h = let both = last-both n (omega arith) in (both .1, last-step n h (both .0) (both .1))
 
 -- ---- a quotient keeps its value when both sides are multiplied
-pub floorDiv-scaled : (z : ℤ) (m q : ℕ) → 0 < m → 0 < q → floorDiv (pos q *ℤ z) (q * m) ≡ floorDiv z m
+floorDiv-scaled : (z : ℤ) (m q : ℕ) → 0 < m → 0 < q → floorDiv (pos q *ℤ z) (q * m) ≡ floorDiv z m
 floorDiv-scaled z m q h k =
     let ρ = z ∷ pos m ∷ pos q ∷ floorDiv z m ∷ pos (floorMod z m) ∷ [] in
     floorDiv-unique (pos q *ℤ z) (floorDiv z m) (q * m) (q * floorMod z m) (mul-lt-mul-of-pos-left (floorMod-lt z m h) k)
@@ -102,17 +102,17 @@ floorDiv-scaled z m q h k =
 
 -- ---- the values there
 -- c0 - c1 + c2 - .. - c13 by signs, and by the two sums
-signed-is : (c : List ℤ) → coefficient c 0 +ℤ sum 1 13 (λ (n : ℕ). coefficient c n *ℤ turn n) ≡ firstValue c
+signed-is : (c : List ℤ) → coefficient c 0 +ℤ sum 1 13 (λ (n : ℕ). coefficient c n *ℤ sign n) ≡ firstValue c
 unfolding firstValue evenSum oddSum
 signed-is c =
-    let g : ℕ → ℤ = λ (n : ℕ). coefficient c n *ℤ turn n in
+    let g : ℕ → ℤ = λ (n : ℕ). coefficient c n *ℤ sign n in
     let e = sum 1 6 (λ (i : ℕ). coefficient c (2 * i)) in
     let o = sum 1 6 (λ (i : ℕ). coefficient c (2 * i + 1)) in
     let e′ = sum 1 6 (λ (i : ℕ). g (2 * i)) in
     let o′ = sum 1 6 (λ (i : ℕ). g (2 * i + 1)) in
-    let evens : pos 1 *ℤ e′ ≡ pos 1 *ℤ e +ℤ pos 0 *ℤ e = sum-linear (pos 1) (pos 1) (pos 0) 1 6 (λ (i : ℕ). g (2 * i)) (λ (i : ℕ). coefficient c (2 * i)) (λ (i : ℕ). coefficient c (2 * i)) (λ i l u. times-one (coefficient c (2 * i)) (turn (2 * i)) (turn-even i)) in
-    let odds : pos 1 *ℤ o′ ≡ negℤ (pos 1) *ℤ o +ℤ pos 0 *ℤ o = sum-linear (pos 1) (negℤ (pos 1)) (pos 0) 1 6 (λ (i : ℕ). g (2 * i + 1)) (λ (i : ℕ). coefficient c (2 * i + 1)) (λ (i : ℕ). coefficient c (2 * i + 1)) (λ i l u. times-minus-one (coefficient c (2 * i + 1)) (turn (2 * i + 1)) (turn-odd i)) in
-    let one : g 1 ≡ negℤ (coefficient c 1) = minus (coefficient c 1) (turn 1) (turn-odd 0) in
+    let evens : pos 1 *ℤ e′ ≡ pos 1 *ℤ e +ℤ pos 0 *ℤ e = sum-linear (pos 1) (pos 1) (pos 0) 1 6 (λ (i : ℕ). g (2 * i)) (λ (i : ℕ). coefficient c (2 * i)) (λ (i : ℕ). coefficient c (2 * i)) (λ i l u. times-one (coefficient c (2 * i)) (sign (2 * i)) (sign-even i)) in
+    let odds : pos 1 *ℤ o′ ≡ negℤ (pos 1) *ℤ o +ℤ pos 0 *ℤ o = sum-linear (pos 1) (negℤ (pos 1)) (pos 0) 1 6 (λ (i : ℕ). g (2 * i + 1)) (λ (i : ℕ). coefficient c (2 * i + 1)) (λ (i : ℕ). coefficient c (2 * i + 1)) (λ i l u. times-minus-one (coefficient c (2 * i + 1)) (sign (2 * i + 1)) (sign-odd i)) in
+    let one : g 1 ≡ negℤ (coefficient c 1) = minus (coefficient c 1) (sign 1) (sign-odd 0) in
     let ρ = coefficient c 0 ∷ coefficient c 1 ∷ e ∷ o ∷ e′ ∷ o′ ∷ g 1 ∷ sum 1 13 g ∷ [] in
     ⇑ ρ (search ring depth 9)
     (omega (
@@ -137,12 +137,12 @@ unfolding value
 first-is c =
     let v = negℤ (pos S) in
     let f : ℕ → ℤ = λ (n : ℕ). coefficient c n *ℤ P S v n in
-    let g : ℕ → ℤ = λ (n : ℕ). coefficient c n *ℤ turn n in
+    let g : ℕ → ℤ = λ (n : ℕ). coefficient c n *ℤ sign n in
     let a = sum 1 13 f in
     let b = sum 1 13 g in
     let each : (n : ℕ) → 1 ≤ n → n < 14 → pos 1 *ℤ f n ≡ pos S *ℤ g n +ℤ pos 0 *ℤ g n =
     λ n l u.
-    let ρ = coefficient c n ∷ turn n ∷ [] in
+    let ρ = coefficient c n ∷ sign n ∷ [] in
     ap (λ (z : ℤ). pos 1 *ℤ (coefficient c n *ℤ z)) (first-both S (lit< tt) n .0) ∙ ⇑ ρ (search ring depth 12) refl
     in
     let ρ = a ∷ b ∷ [] in
