@@ -1,5 +1,5 @@
 /* Times the proved finder and the proved locator beside the same algorithms in C, in one run, over whole series, best of several rounds: acceptance alone,
-   acceptance and the list of every mark, acceptance and the second of every mark by its index. Fails where an answer or a word differs. Then counts, in
+   acceptance and the list of every mark, acceptance and the second of every mark by its index. Fails where an answer or a word differs, on spoilt series too. Then counts, in
    the C ports, evaluations a mark, how deep the finder's calls nest, and what plain bisection asks; on made series too, whose rates are as uneven as
    acceptance lets them be.
    Arguments: a file of the Sun's series, then one of the Moon's: 64-bit words, how many segments, the start, fourteen coefficients a segment. */
@@ -70,11 +70,75 @@ static inline int64_t mark_size(bool moon) {
     return moon ? 3240000000 : 540000000;
 }
 
-/* 0, or the number of the refusal */
-static int accept(bool moon, int64_t start, const int64_t *coefs, size_t count) {
+/* 2: 0, or the number of the refusal */
+static inline int shape(bool moon, int64_t start, size_t count) {
     if (count % 14 != 0 || count == 0) return 2;
     if ((moon ? 224000 : 28000) < count) return 2;
     if (start < -10000000000 || 10000000000 < start) return 2;
+    return 0;
+}
+
+/* Acceptance as the proved code judges it: one pass, a segment's first and last value by closed forms that share two sums. */
+static inline bool out_of_range(const int64_t *c) {
+    for (size_t n = 0; n < 14; n++)
+        if ((n == 0 ? 1000000000000000u : 4000000000u) < absolute(c[n])) return 1;
+    return 0;
+}
+
+static inline int64_t even_sum(const int64_t *c) {
+    int64_t sum = c[0];
+    for (size_t i = 1; i < 7; i++) sum += c[2 * i];
+    return sum;
+}
+
+static inline int64_t odd_sum(const int64_t *c) {
+    int64_t sum = c[1];
+    for (size_t i = 1; i < 7; i++) sum += c[2 * i + 1];
+    return sum;
+}
+
+static inline int64_t square_sum(const int64_t *c) {
+    int64_t sum = 0;
+    for (size_t n = 1; n < 14; n++) sum += c[n] * (int64_t)(n * n);
+    return sum;
+}
+
+static inline int64_t floor_by_half(bool moon, int64_t t) {
+    if (moon) return (int64_t)((uint64_t)(t + 11596411699200) / 172800) - 67108864;
+    return (int64_t)((uint64_t)(t + 11596411699200) / 1382400) - 8388608;
+}
+
+typedef struct { int64_t first, last; } ends;
+
+static inline ends ends_of(bool moon, const int64_t *c) {
+    int64_t even = even_sum(c), odd = odd_sum(c);
+    return (ends){even - odd, even + odd + floor_by_half(moon, -square_sum(c))};
+}
+
+static inline size_t first_of(size_t kept, size_t count, bool bad, size_t k) {
+    if (kept < count) return kept;
+    return bad ? k : kept;
+}
+
+static int accept(bool moon, int64_t start, const int64_t *coefs, size_t count) {
+    if (shape(moon, start, count)) return 2;
+    size_t segments = count / 14, slow = segments, joint = segments;
+    int64_t least = 100 * (int64_t)half_length(moon), last = 0;
+    for (size_t k = 0; k < segments; k++) {
+        const int64_t *c = coefs + 14 * k;
+        if (out_of_range(c)) return 3;
+        slow = first_of(slow, segments, segment_slope(c) < least, k);
+        ends e = ends_of(moon, c);
+        int64_t rise = e.first - last;
+        joint = first_of(joint, segments, k != 0 && (rise < 200 || 100000 < rise), k);
+        last = e.last;
+    }
+    return slow < segments ? 4 : joint < segments ? 5 : 0;
+}
+
+/* Acceptance as one would write it first: a pass for each rule, and the values at a joint by evaluation. */
+static int plain_accept(bool moon, int64_t start, const int64_t *coefs, size_t count) {
+    if (shape(moon, start, count)) return 2;
     for (size_t i = 0; i < count; i++)
         if ((i % 14 == 0 ? 1000000000000000u : 4000000000u) < absolute(coefs[i])) return 3;
     int64_t least = 100 * (int64_t)half_length(moon);
@@ -115,7 +179,7 @@ static inline int64_t last_second(bool moon, int64_t start, size_t count) {
 }
 
 /* The finder: two are timed, and one counts. */
-#define FINDER(NAME, INDEX, IN, EVALUATION, OUT)                                                                                                      \
+#define FINDER(NAME, ACCEPT, INDEX, IN, EVALUATION, OUT)                                                                                              \
     static void NAME##_find(bool moon, int64_t start, const int64_t *coefs, size_t count, int64_t lo, int64_t hi, int64_t lowest,                     \
             int64_t highest, int64_t *out, size_t room) {                                                                                             \
         if (lowest == highest) return;                                                                                                                \
@@ -133,7 +197,7 @@ static inline int64_t last_second(bool moon, int64_t start, size_t count) {
     }                                                                                                                                                 \
     __attribute__((noinline)) static int64_t NAME##_list(bool moon, int64_t start, const int64_t *coefs, size_t count, int64_t *out,                  \
             size_t room) {                                                                                                                            \
-        int refusal = accept(moon, start, coefs, count);                                                                                              \
+        int refusal = ACCEPT(moon, start, coefs, count);                                                                                              \
         if (refusal) return -refusal;                                                                                                                 \
         int64_t last = last_second(moon, start, count);                                                                                               \
         EVALUATION int64_t lowest = INDEX(moon, start, coefs, start);                                                                                 \
@@ -144,9 +208,9 @@ static inline int64_t last_second(bool moon, int64_t start, size_t count) {
         OUT return (int64_t)marks;                                                                                                                    \
     }
 
-FINDER(same, same_index, NOTHING, NOTHING, NOTHING)
-FINDER(plain, plain_index, NOTHING, NOTHING, NOTHING)
-FINDER(counted, same_index, if (++depth > deepest) deepest = depth;, COUNTED, depth--;)
+FINDER(same, accept, same_index, NOTHING, NOTHING, NOTHING)
+FINDER(plain, plain_accept, plain_index, NOTHING, NOTHING, NOTHING)
+FINDER(counted, accept, same_index, if (++depth > deepest) deepest = depth;, COUNTED, depth--;)
 
 /* The locator's guesses, as crate guess has them. Only `segment_near` and `between` are relied on; the rest says where to look. */
 static inline int64_t at_most(int64_t most, int64_t a) {
@@ -363,6 +427,34 @@ static int counted(const char *name, bool moon) {
     return 0;
 }
 
+/* Spoils one to three words at a time, near the limits of 3, 4 and 5, and compares the refusals of the three. */
+static int spoilt(bool moon) {
+    size_t count = 14 * (size_t)words[0], refused[6] = {0};
+    uint64_t z = 1;
+    for (int round = 0; round < 3000; round++) {
+        size_t at[3], changed = 1 + (size_t)(round % 3);
+        int64_t was[3];
+        for (size_t i = 0; i < changed; i++) {
+            z = z * 6364136223846793005u + 1442695040888963407u;
+            at[i] = 2 + (z >> 33) % count;
+            was[i] = words[at[i]];
+            z = z * 6364136223846793005u + 1442695040888963407u;
+            int64_t spoils[8] = {was[i] + 300, was[i] - 90000, was[i] + 3, 4000000001, -4000000001, 1000000000000001, 900000000, -9223372036854775807 - 1};
+            words[at[i]] = spoils[(z >> 33) % 8];
+        }
+        int64_t answer = marks_list(moon, words[1], words + 2, count, out[0], 0);
+        int64_t same = -accept(moon, words[1], words + 2, count), plain = -plain_accept(moon, words[1], words + 2, count);
+        if ((answer == -12 ? 0 : answer) != plain || same != plain) {
+            printf("%s: spoilt, the refusals differ: proved %ld, same in C %ld, plain C %ld\n", moon ? "Moon" : "Sun", answer, same, plain);
+            return 1;
+        }
+        refused[-plain]++;
+        for (size_t i = changed; i-- > 0;) words[at[i]] = was[i];
+    }
+    printf("%s, 3000 spoilt series: %lu accepted, refused by 3 %lu, by 4 %lu, by 5 %lu\n", moon ? "Moon" : "Sun", refused[0], refused[3], refused[4], refused[5]);
+    return 0;
+}
+
 static int real(const char *path, bool moon) {
     const char *name = moon ? "Moon" : "Sun";
     int file = open(path, 0);
@@ -376,7 +468,8 @@ static int real(const char *path, bool moon) {
     if (counted(name, moon)) return 1;
     double n = plain_list(moon, words[1], words + 2, 14 * (size_t)words[0], out[4], 2 * MOST_MARKS);
     entry *const list[3] = {marks_list, same_list, plain_list}, *const locate[2] = {marks_locate, plain_locate};
-    race(list, 2, moon, 0, "acceptance alone", words[0], "segment");
+    if (spoilt(moon)) return 1;
+    race(list, 3, moon, 0, "acceptance alone", words[0], "segment");
     double accepting = best[0], accepting_in_c = best[1];
     race(list, 3, moon, 2 * MOST_MARKS, "acceptance and list", n, "mark");
     race(locate, 2, moon, 2 * MOST_MARKS, "acceptance and locator", n, "mark");

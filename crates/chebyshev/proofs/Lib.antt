@@ -1,3 +1,5 @@
 pub mod Shifted
+pub mod Read
 pub mod Turn
 pub mod Fall
+pub mod Running

@@ -1,129 +1,28 @@
--- The values at a segment's first and last second, by closed forms. At the first, place -S, every P(n) is S or -S, so the value is c0 - c1 + c2 - .. - c13.
--- At the last, one step q before S, P(n) is S - q·n² up to n = 13, since rounding drops less than one unit a step, so the value is the sum of the coefficients
--- and ⌊-Σ n²·c(n) / H⌋. The theorems are `first-value` and `last-value`, at the end. Assumes nothing.
-use mathlib.Core.Path.{_≡_, refl, sym, ap, ap₂, _∙_}
-use mathlib.Core.List.{List, [], _∷_}
-use Prim.Native.Nat.{ℕ, zero, suc, _+_, _*_, _≤_, _<_}
-use native.Mathlib.Omega.{arith}
-use native.Mathlib.Nat.{mul-lt-mul-of-pos-left, mul-le-mul, le-refl}
-use lib.Dec.{lit<}
+-- The values at a segment's first and last second, by closed forms (`first-value` and `last-value` in Theorems say that they are those). At the first, place -S,
+-- every P(n) is S or -S; at the last, one step q before S, P(n) is S - q·n², since rounding drops less than one unit a step. Assumes nothing: these are
+-- definitions.
+use mathlib.Core.List.{List}
+use Prim.Native.Nat.{ℕ, _+_, _*_}
 use lib.IntN.{ℤ, pos, negℤ, _+ℤ_, _-ℤ_, _*ℤ_}
-use Rattle.whole.specs.Solver.{⇑, ⇓, ring}
-use Rattle.whole.specs.Floor.{floorDiv, floorMod, floorDiv-floorMod, floorMod-lt, floorDiv-unique, floorDiv-add}
-use Rattle.chebyshev.specs.Polynomials.{S, P}
-use Rattle.chebyshev.specs.Segment.{coefficient, sum, value}
-use Rattle.chebyshev.specs.Sums.{sum-linear}
+use Rattle.whole.specs.Floor.{floorDiv}
+use Rattle.chebyshev.specs.Segment.{coefficient, sum}
 
--- 1, -1, 1, -1, ..
-unfoldable pub turn : ℕ → ℤ
-turn zero = pos 1
-turn (suc n) = negℤ (turn n)
+-- c0 + c2 + .. + c12
+unfoldable pub evenSum : List ℤ → ℤ
+evenSum c = coefficient c 0 +ℤ sum 1 6 (λ (i : ℕ). coefficient c (2 * i))
+
+-- c1 + c3 + .. + c13
+unfoldable pub oddSum : List ℤ → ℤ
+oddSum c = coefficient c 1 +ℤ sum 1 6 (λ (i : ℕ). coefficient c (2 * i + 1))
+
+-- c1 + 4·c2 + 9·c3 + .. + 169·c13
+unfoldable pub squareSum : List ℤ → ℤ
+squareSum c = sum 1 13 (λ (n : ℕ). coefficient c n *ℤ pos (n * n))
 
 -- c0 - c1 + c2 - .. - c13
 unfoldable pub firstValue : List ℤ → ℤ
-firstValue c = coefficient c 0 +ℤ sum 1 13 (λ (n : ℕ). coefficient c n *ℤ turn n)
+firstValue c = evenSum c -ℤ oddSum c
 
--- c0 + c1 + .. + c13 + ⌊-(c1 + 4·c2 + .. + 169·c13) / H⌋
+-- the sum of all, less that of the squares over H, which is rounded up
 unfoldable pub lastValue : ℕ → List ℤ → ℤ
-lastValue H c = coefficient c 0 +ℤ (sum 1 13 (coefficient c) +ℤ floorDiv (negℤ (sum 1 13 (λ (n : ℕ). coefficient c n *ℤ pos (n * n)))) H)
-
--- ---- the polynomials there
-module _ (s : ℕ) (some : 0 < s) where
-  first-step : (n : ℕ) → P s (negℤ (pos s)) n ≡ turn n *ℤ pos s → P s (negℤ (pos s)) (suc n) ≡ turn (suc n) *ℤ pos s → P s (negℤ (pos s)) (suc (suc n)) ≡ turn (suc (suc n)) *ℤ pos s
-  unfolding P turn
-  first-step n a b =
-      let t = pos 2 *ℤ negℤ (pos s) *ℤ P s (negℤ (pos s)) (suc n) in
-      let ρ = pos s ∷ turn n ∷ P s (negℤ (pos s)) n ∷ P s (negℤ (pos s)) (suc n) ∷ [] in
-      let is : t ≡ pos 2 *ℤ turn n *ℤ pos s *ℤ pos s +ℤ pos 0 = ap (λ (z : ℤ). pos 2 *ℤ negℤ (pos s) *ℤ z) b ∙ ⇑ ρ (search ring depth 12) refl in
-      let q : floorDiv t s ≡ pos 2 *ℤ turn n *ℤ pos s = floorDiv-unique t (pos 2 *ℤ turn n *ℤ pos s) s 0 some is in
-      ap₂ (λ (x y : ℤ). x -ℤ y) q a ∙ ⇑ ρ (search ring depth 12) refl
-
-  first-both : (n : ℕ) → (P s (negℤ (pos s)) n ≡ turn n *ℤ pos s) × (P s (negℤ (pos s)) (suc n) ≡ turn (suc n) *ℤ pos s)
-  first-both zero = (unfold P turn in ⇑ (pos s ∷ []) (search ring depth 9) refl, unfold P turn in ⇑ (pos s ∷ []) (search ring depth 9) refl)
-  first-both (suc n) = let both = first-both n in (both .1, first-step n (both .0) (both .1))
-
-  module _ (q : ℕ) (few : 2 * (q * q) * 144 < s) where
-    abbrev falling : ℕ → ℤ
-    falling n = pos s -ℤ pos q *ℤ pos (n * n)
-
-    abbrev whole : ℕ → ℤ
-    whole m = pos 2 *ℤ pos s -ℤ pos 2 *ℤ pos q -ℤ pos 2 *ℤ pos q *ℤ pos (m * m)
-
-    split : (m : ℕ) → pos 2 *ℤ (pos s -ℤ pos q) *ℤ falling m ≡ whole m *ℤ pos s +ℤ pos (2 * (q * q) * (m * m))
-    split m = ⇑ (pos s ∷ pos q ∷ pos m ∷ []) (search ring depth 20) refl
-
-    next : (n m k : ℕ) → m ≡ n + 1 → k ≡ n + 2 → whole m -ℤ falling n ≡ falling k
-    next n m k e f = rw (e, f) (⇑ (pos s ∷ pos q ∷ pos n ∷ []) (search ring depth 20) refl)
-
-    last-step : (n : ℕ) → suc n ≤ 12 → P s (pos s -ℤ pos q) n ≡ falling n → P s (pos s -ℤ pos q) (suc n) ≡ falling (suc n) → P s (pos s -ℤ pos q) (suc (suc n)) ≡ falling (suc (suc n))
-    unfolding P
-    last-step n h a b =
-        let x = pos s -ℤ pos q in
-        let t = pos 2 *ℤ x *ℤ P s x (suc n) in
-        ap₂ (λ (y z : ℤ). y -ℤ z) (floorDiv-unique t (whole (suc n)) s (2 * (q * q) * (suc n * suc n)) (less (suc n) h) (ap (λ (z : ℤ). pos 2 *ℤ x *ℤ z) b ∙ split (suc n))) a ∙ next n (suc n) (suc (suc n)) (omega arith) (omega arith)
-      where
-        less : (m : ℕ) → m ≤ 12 → 2 * (q * q) * (m * m) < s
-        less m l = omega (arith, mul-le-mul (le-refl (2 * (q * q))) (mul-le-mul l l))
-
-    last-both : (n : ℕ) → n ≤ 12 → (P s (pos s -ℤ pos q) n ≡ falling n) × (P s (pos s -ℤ pos q) (suc n) ≡ falling (suc n))
-    last-both zero h = (unfold P in ⇑ (pos s ∷ pos q ∷ []) (search ring depth 9) refl, unfold P in ⇑ (pos s ∷ pos q ∷ []) (search ring depth 9) refl)
-    last-both (suc n) h = let both = last-both n (omega arith) in (both .1, last-step n h (both .0) (both .1))
-
--- ---- a quotient keeps its value when both sides are multiplied
-pub floorDiv-scaled : (z : ℤ) (m q : ℕ) → 0 < m → 0 < q → floorDiv (pos q *ℤ z) (q * m) ≡ floorDiv z m
-floorDiv-scaled z m q h k =
-    let ρ = z ∷ pos m ∷ pos q ∷ floorDiv z m ∷ pos (floorMod z m) ∷ [] in
-    floorDiv-unique (pos q *ℤ z) (floorDiv z m) (q * m) (q * floorMod z m) (mul-lt-mul-of-pos-left (floorMod-lt z m h) k)
-    (⇑ ρ (search ring depth 12) (omega (arith, ⇓ ρ (ap (λ (y : ℤ). pos q *ℤ y) (floorDiv-floorMod z m h)) (search ring depth 12))))
-
--- ---- the theorems
-pub first-value : (c : List ℤ) → value c (negℤ (pos S)) ≡ firstValue c
-unfolding value firstValue
-first-value c =
-    let v = negℤ (pos S) in
-    let f : ℕ → ℤ = λ (n : ℕ). coefficient c n *ℤ P S v n in
-    let g : ℕ → ℤ = λ (n : ℕ). coefficient c n *ℤ turn n in
-    let a = sum 1 13 f in
-    let b = sum 1 13 g in
-    let each : (n : ℕ) → 1 ≤ n → n < 14 → pos 1 *ℤ f n ≡ pos S *ℤ g n +ℤ pos 0 *ℤ g n =
-    λ n l u.
-    let ρ = coefficient c n ∷ turn n ∷ [] in
-    ap (λ (z : ℤ). pos 1 *ℤ (coefficient c n *ℤ z)) (first-both S (lit< tt) n .0) ∙ ⇑ ρ (search ring depth 12) refl
-    in
-    let ρ = a ∷ b ∷ [] in
-    let is : a ≡ b *ℤ pos S +ℤ pos 0 = ⇑ ρ (search ring depth 9) (omega (arith, ⇓ ρ (sum-linear (pos 1) (pos S) (pos 0) 1 13 f g g each) (search ring depth 9))) in
-    ap (λ (z : ℤ). coefficient c 0 +ℤ z) (floorDiv-unique a b S 0 (lit< tt) is)
-
-pub last-value : (c : List ℤ) (q H : ℕ) → q * H ≡ S → 2 * (q * q) * 144 < S → value c (pos S -ℤ pos q) ≡ lastValue H c
-unfolding value lastValue
-last-value c q H e few =
-    let x = pos S -ℤ pos q in
-    let f : ℕ → ℤ = λ (n : ℕ). coefficient c n *ℤ P S x n in
-    let h : ℕ → ℤ = λ (n : ℕ). coefficient c n *ℤ pos (n * n) in
-    let a = sum 1 13 f in
-    let b = sum 1 13 (coefficient c) in
-    let d = sum 1 13 h in
-    let each : (n : ℕ) → 1 ≤ n → n < 14 → pos 1 *ℤ f n ≡ pos S *ℤ coefficient c n +ℤ negℤ (pos q) *ℤ h n =
-    λ n l u.
-    let ρ = coefficient c n ∷ pos q ∷ pos n ∷ [] in
-    ap (λ (z : ℤ). pos 1 *ℤ (coefficient c n *ℤ z)) (at n u) ∙ ⇑ ρ (search ring depth 12) refl
-    in
-    let ρ = a ∷ b ∷ d ∷ pos q ∷ [] in
-    let is : a ≡ pos q *ℤ negℤ d +ℤ b *ℤ pos S = ⇑ ρ (search ring depth 9) (omega (arith, ⇓ ρ (sum-linear (pos 1) (pos S) (negℤ (pos q)) 1 13 f (coefficient c) h each) (search ring depth 9))) in
-    let quotient : floorDiv a S ≡ floorDiv (negℤ d) H +ℤ b =
-    ap (λ (z : ℤ). floorDiv z S) is ∙ floorDiv-add (pos q *ℤ negℤ d) b S (lit< tt) ∙ ap (λ (z : ℤ). z +ℤ b) (ap (floorDiv (pos q *ℤ negℤ d)) (sym e) ∙ floorDiv-scaled (negℤ d) H q (some-right q H e) (some-left q H e))
-    in
-    let σ = b ∷ floorDiv (negℤ d) H ∷ [] in
-    ap (λ (z : ℤ). coefficient c 0 +ℤ z) (quotient ∙ ⇑ σ (search ring depth 9) refl)
-  where
-    at : (n : ℕ) → n < 14 → P S (pos S -ℤ pos q) n ≡ pos S -ℤ pos q *ℤ pos (n * n)
-    at zero u = last-both S (lit< tt) q few 0 (omega arith) .0
-    at (suc n) u = last-both S (lit< tt) q few n (omega arith) .1
-
-    some-left : (q H : ℕ) → q * H ≡ S → 0 < q
-    some-left zero H e = absurd (omega arith)
-    some-left (suc q) H e = omega arith
-
-    some-right : (q H : ℕ) → q * H ≡ S → 0 < H
-    some-right q zero e = absurd (omega arith)
-    some-right q (suc H) e = omega arith
+lastValue H c = evenSum c +ℤ oddSum c +ℤ floorDiv (negℤ (squareSum c)) H

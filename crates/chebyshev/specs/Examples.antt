@@ -1,13 +1,14 @@
--- Worked values of a segment, one list checked by computation: first document 01's, at a segment's beginning and middle, then where rounding
--- shows, then slope and exact sum. Assumes nothing.
-use mathlib.Core.Bool.{Bool}
-use mathlib.Core.List.{List, [], _∷_}
+-- Worked values of a segment, checked by computation: document 01's, at a segment's beginning and middle, where rounding shows, slope and exact sum
+-- (`values`); the first and the last value (`ends`); refusal 3 on both sides (`ranges`). Assumes nothing.
+use mathlib.Core.Bool.{Bool, not}
+use mathlib.Core.List.{List, [], _∷_, _++_}
 use lib.Dec.{T}
 use lib.IntN.{ℤ, pos, negsuc, negℤ, _*ℤ_}
 use Rattle.whole.specs.Floor.{floorDiv}
 use Rattle.whole.specs.Evaluated.{same, all}
 use Rattle.chebyshev.specs.Polynomials.{S, P, Q}
-use Rattle.chebyshev.specs.Segment.{sum, value, exact, divisor, slope}
+use Rattle.chebyshev.specs.Segment.{sum, value, exact, divisor, slope, outOfRange}
+use Rattle.chebyshev.specs.EndValues.{evenSum, oddSum, squareSum, firstValue, lastValue}
 
 -- the Sun series of document 01
 abbrev even : List ℤ
@@ -25,9 +26,52 @@ fourth = pos 0 ∷ pos 0 ∷ pos 0 ∷ pos 0 ∷ pos 1 ∷ []
 abbrev falling : List ℤ
 falling = pos 0 ∷ negsuc 0 ∷ []
 
-unfoldable pub examples : List Bool
+-- every coefficient counts, each with a weight of its own
+abbrev wavy : List ℤ
+wavy = pos 1000000000000 ∷ pos 987654321 ∷ negℤ (pos 31000003) ∷ pos 2900017 ∷ negℤ (pos 170029) ∷ pos 99991 ∷ pos 50021 ∷ negℤ (pos 20011) ∷ pos 7919 ∷ negℤ (pos 5003) ∷ pos 3001 ∷ negℤ (pos 1999) ∷ pos 997 ∷ negℤ (pos 499) ∷ []
+
+-- a coefficient at its limit, and one over it
+abbrev with13 : ℤ → List ℤ
+with13 c13 = pos 0 ∷ pos 0 ∷ pos 0 ∷ pos 0 ∷ pos 0 ∷ pos 0 ∷ pos 0 ∷ pos 0 ∷ pos 0 ∷ pos 0 ∷ pos 0 ∷ pos 0 ∷ pos 0 ∷ c13 ∷ []
+
+-- the first value and the last, of the Sun (48 before S, H = 1,382,400) and of the Moon (384 before S, H = 172,800): the closed forms, and the value itself
+unfoldable pub ends : List Bool
+unfolding value evenSum oddSum squareSum firstValue lastValue sum P floorDiv
+ends =
+    same (firstValue even) (pos 0)
+    ∷ same (firstValue bent) (pos 1000)
+    ∷ same (firstValue wavy) (value wavy (negℤ (pos S)))
+    ∷ same (firstValue wavy) (pos 998978265089)
+    ∷ same (lastValue 1382400 even) (pos 1105919600)
+    ∷ same (lastValue 1382400 wavy) (value wavy (pos 66355152))
+    ∷ same (lastValue 1382400 wavy) (pos 1000959518078)
+    ∷ same (lastValue 172800 wavy) (value wavy (pos 66354816))
+    ∷ same (lastValue 172800 wavy) (pos 1000959513569)
+    -- rounded: ⌊-1/H⌋ is -1, ⌊1/H⌋ is 0
+    ∷ same (lastValue 1382400 (pos 0 ∷ pos 1 ∷ [])) (pos 0)
+    ∷ same (value (pos 0 ∷ pos 1 ∷ []) (pos 66355152)) (pos 0)
+    ∷ same (lastValue 1382400 falling) (negsuc 0)
+    ∷ same (value falling (pos 66355152)) (negsuc 0)
+    ∷ same (lastValue 172800 (pos 0 ∷ pos 1 ∷ [])) (pos 0)
+    ∷ same (lastValue 172800 falling) (negsuc 0)
+    ∷ []
+
+-- refusal 3, on both sides
+unfoldable pub ranges : List Bool
+ranges =
+    not (outOfRange (pos 1000000000000000 ∷ []))
+    ∷ outOfRange (pos 1000000000000001 ∷ [])
+    ∷ not (outOfRange (negℤ (pos 1000000000000000) ∷ []))
+    ∷ outOfRange (negℤ (pos 1000000000000001) ∷ [])
+    ∷ not (outOfRange (with13 (pos 4000000000)))
+    ∷ outOfRange (with13 (pos 4000000001))
+    ∷ not (outOfRange (with13 (negℤ (pos 4000000000))))
+    ∷ outOfRange (with13 (negℤ (pos 4000000001)))
+    ∷ []
+
+unfoldable pub values : List Bool
 unfolding value exact divisor slope sum P Q floorDiv
-examples =
+values =
     same (value even (negℤ (pos S))) (pos 0)
     ∷ same (value even (pos 0)) (pos 552960000)
     ∷ same (value bent (negℤ (pos S))) (pos 1000)
@@ -40,6 +84,9 @@ examples =
     ∷ same (exact bent (pos 0)) (pos 552959000 *ℤ divisor)
     ∷ []
 
+unfoldable pub examples : List Bool
+examples = values ++ ends ++ ranges
+
 pub examples-hold : T (all examples)
-unfolding examples
+unfolding examples values ends ranges
 examples-hold = tt

@@ -1,13 +1,6 @@
 pub mod Polynomials
 pub mod Segment
-pub mod Examples
-pub mod Theorems
-pub mod Pell
-pub mod Forced
-pub mod Rounding
-pub mod Sums
 pub mod EndValues
-pub mod Bounds
-pub mod Nearness
-pub mod Steps
-pub mod Between
+pub mod theory
+pub mod Theorems
+pub mod Examples

@@ -1,7 +1,9 @@
 -- One segment of a series: its value and its exact sum at a place, its range, how fast it rises (document 01, "Segments"). Assumes nothing.
+use mathlib.Core.Bool.{Bool, false, _||_}
 use mathlib.Core.List.{List}
 use Prim.Native.Nat.{ℕ, zero, suc, _+_, _*_, _-_, _^_, _≤_}
 use lib.IntN.{ℤ, pos, natAbs, _+ℤ_, _-ℤ_, _*ℤ_}
+use lib.Dec.{ltb}
 use lib.ListN.{getD}
 use Rattle.whole.specs.Floor.{floorDiv}
 use Rattle.whole.specs.Ranges.{Within}
@@ -30,6 +32,19 @@ exact c x = coefficient c 0 *ℤ divisor +ℤ sum 1 13 (λ (n : ℕ). coefficien
 -- The value is less than this many units from the exact sum in every accepted series.
 abbrev pub allowance : ℕ
 allowance = 32
+
+-- "|c0| ≤ 10^15, |cn| ≤ 4,000,000,000": how large a coefficient may be.
+abbrev pub limit : ℕ → ℕ
+limit zero = 1000000000000000
+limit (suc n) = 4000000000
+
+-- Whether one of `count` coefficients, from c(n) on, is larger; and one of all fourteen, which is refusal 3.
+abbrev pub larger : List ℤ → ℕ → ℕ → Bool
+larger c n zero = false
+larger c n (suc count) = ltb (limit n) (natAbs (coefficient c n)) || larger c (suc n) count
+
+abbrev pub outOfRange : List ℤ → Bool
+outOfRange c = larger c 0 14
 
 -- What refusal 3 asks of a segment.
 pub record InRange (c : List ℤ) : Type 0 where

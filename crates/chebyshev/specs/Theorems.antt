@@ -2,24 +2,30 @@
 -- second to the next. Here x is the place, H the half-length and q = S/H the step of one second; an exact sum is in units of 1/S¹³.
 -- Assumes nothing.
 use mathlib.Core.Path.{_≡_}
+use mathlib.Core.Logic.{_↔_}
+use mathlib.Core.Bool.{false}
 use mathlib.Core.List.{List, [], _∷_}
-use Prim.Native.Nat.{ℕ, zero, suc, _+_, _*_, _-_, _^_, _≤_}
+use Prim.Native.Nat.{ℕ, zero, suc, _+_, _*_, _-_, _^_, _≤_, _<_}
 use native.Mathlib.Omega.{arith}
-use lib.IntN.{ℤ, pos, natAbs, _+ℤ_, _-ℤ_, _*ℤ_}
+use lib.IntN.{ℤ, pos, negℤ, natAbs, _+ℤ_, _-ℤ_, _*ℤ_}
+use lib.ListN.{length}
 use Rattle.whole.specs.Parts.{_⩽_, _≺_}
 use Rattle.whole.specs.Laws.{abs-+}
 use Rattle.whole.specs.Solver.{⇑, ⇓, ring}
 use Rattle.whole.specs.Floor.{floorDiv}
 use Rattle.whole.specs.Ranges.{Within}
 use Rattle.chebyshev.specs.Polynomials.{S, P, Q, W}
-use Rattle.chebyshev.specs.Segment.{coefficient, value, exact, divisor, allowance, InRange, slope}
-use Rattle.chebyshev.specs.Pell.{Q-within, W-within}
-use Rattle.chebyshev.specs.Forced.{Forced, forced-within}
-use Rattle.chebyshev.specs.Rounding.{P-within}
-use Rattle.chebyshev.specs.Bounds.{partial, partial-small, floor-small, weights-small}
-use Rattle.chebyshev.specs.Nearness.{near}
-use Rattle.chebyshev.specs.Steps.{rises, rises-little}
-use Rattle.chebyshev.specs.Between.{abs-below, abs-above, values-rise, values-rise-little}
+use Rattle.chebyshev.specs.Segment.{coefficient, value, exact, divisor, allowance, outOfRange, InRange, slope}
+use Rattle.chebyshev.specs.EndValues.{evenSum, oddSum, squareSum, firstValue, lastValue}
+use Rattle.chebyshev.specs.theory.Pell.{Q-within, W-within}
+use Rattle.chebyshev.specs.theory.Forced.{Forced, forced-within}
+use Rattle.chebyshev.specs.theory.Rounding.{P-within}
+use Rattle.chebyshev.specs.theory.Bounds.{partial, partial-small, floor-small, even-sum-small, odd-sum-small, square-sum-small, weights-small}
+use Rattle.chebyshev.specs.theory.Ends.{first-is, last-is}
+use Rattle.chebyshev.specs.theory.Ranges.{in-range, none-larger}
+use Rattle.chebyshev.specs.theory.Nearness.{near}
+use Rattle.chebyshev.specs.theory.Steps.{rises, rises-little}
+use Rattle.chebyshev.specs.theory.Between.{abs-below, abs-above, values-rise, values-rise-little}
 
 -- |Q(n)| ≤ Sⁿ
 pub Q-bound : {x : ℤ} → Within S x → (n : ℕ) → natAbs (Q (pos S) x n) ≤ S ^ n
@@ -46,11 +52,32 @@ pub divisor-positive : pos 0 ≺ divisor
 unfolding divisor
 divisor-positive = record { lt = tt }
 
+-- the values at a segment's first second and at its last
+pub first-value : (c : List ℤ) → value c (negℤ (pos S)) ≡ firstValue c
+first-value c = first-is c
+
+pub last-value : (c : List ℤ) (q H : ℕ) → q * H ≡ S → 2 * (q * q) * 144 < S → value c (pos S -ℤ pos q) ≡ lastValue H c
+last-value c q H step few = last-is c q H step few
+
+-- refusal 3 is not given exactly where the segment is in range
+pub in-range-exactly : (c : List ℤ) → length c ≡ 14 → outOfRange c ≡ false ↔ InRange c
+in-range-exactly c l = (in-range c l, none-larger c)
+
 module _ {c : List ℤ} (r : InRange c) where
   -- the value is no larger than this, so that a caller's sums of it fit
   pub value-bound : {x : ℤ} → Within S x → Within 1000100000000000 (value c x)
   unfolding value
   value-bound {x} h = record { within = omega (arith, abs-+ (coefficient c 0) (floorDiv (partial c x 13) S), r .constant .within, floor-small (partial c x 13) (partial-small r h 13 (omega arith) .within)) }
+
+  -- and so are the sums of the closed forms
+  pub even-sum-bound : Within 1000100000000000 (evenSum c)
+  even-sum-bound = even-sum-small r
+
+  pub odd-sum-bound : Within 100000000000 (oddSum c)
+  odd-sum-bound = odd-sum-small r
+
+  pub square-sum-bound : Within 10000000000000 (squareSum c)
+  square-sum-bound = square-sum-small r
 
   module _ (H : ℕ) (fast : pos (100 * H) ⩽ slope c) where
     module _ (q : ℕ) (step : q * H ≡ S) {x : ℤ} (h : Within S x) (k : Within S (x +ℤ pos q)) where

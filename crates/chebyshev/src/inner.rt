@@ -1,4 +1,5 @@
-// The evaluator of one segment and its slope. Callers show the range (refusal 3) and the place.
+// One segment: its range, its value at a place, its slope, and the sums of the closed forms of its first and last value. Callers show the range (refusal 3) and
+// the place.
 ghost use mathlib.Core.Path.{_≡_};
 ghost use Prim.Native.Nat.{_*_, _<_};
 ghost use lib.IntN.{pos, natAbs, _-ℤ_, _*ℤ_};
@@ -7,6 +8,29 @@ ghost use Rattle.whole.specs.Ranges.{Within};
 ghost use Rattle.chebyshev.specs.Polynomials.{S};
 ghost use Rattle.chebyshev.specs.Segment.{InRange};
 ghost use Rattle.chebyshev.specs.Segment as segment;
+ghost use Rattle.chebyshev.specs.EndValues.{evenSum, oddSum, squareSum};
+
+// How large the n-th coefficient may be.
+fn limit_of(n: usize) -> u64
+    ensures { λ r. ⌜ r ≡ segment.limit n ⌝ }
+{
+    if n == 0 { 1000000000000000 } else { 4000000000 }
+}
+
+// Whether a coefficient is out of range.
+pub fn out_of_range(coefs: &[i64]) -> bool
+    requires { do ⌜ (← ⟦coefs.len()⟧) ≡ 14 ⌝ }
+    ensures { λ r. ⌜ r ≡ segment.outOfRange (now (coefs .entry)) ⌝ }
+{
+    let mut n = 0;
+    while n < 14 {
+        if limit_of(n) < whole::absolute(coefs[n]) {
+            return true;
+        }
+        n += 1;
+    }
+    false
+}
 
 // A step's product divided by the scale and rounded down. 268,435,456 times the scale is added first, so that an unsigned division by a
 // constant does it, without a branch; that is a multiplication and a shift.
@@ -78,4 +102,58 @@ pub fn slope(coefs: &[i64]) -> i64
         n += 1;
     }
     left
+}
+
+// c0 + c2 + .. + c12.
+pub fn even_sum(coefs: &[i64]) -> i64
+    requires { do ⌜ (← ⟦coefs.len()⟧) ≡ 14 ⌝ }
+    requires { ⌜ InRange (now coefs) ⌝ }
+    ensures { λ r. ⌜ r ≡ evenSum (now (coefs .entry)) ⌝ }
+{
+    let mut sum = coefs[0];
+    let mut i = 1;
+    while i < 7 {
+        sum += coefs[2 * i];
+        i += 1;
+    }
+    sum
+}
+
+// c1 + c3 + .. + c13.
+pub fn odd_sum(coefs: &[i64]) -> i64
+    requires { do ⌜ (← ⟦coefs.len()⟧) ≡ 14 ⌝ }
+    requires { ⌜ InRange (now coefs) ⌝ }
+    ensures { λ r. ⌜ r ≡ oddSum (now (coefs .entry)) ⌝ }
+{
+    let mut sum = coefs[1];
+    let mut i = 1;
+    while i < 7 {
+        sum += coefs[2 * i + 1];
+        i += 1;
+    }
+    sum
+}
+
+// n² times a coefficient.
+fn squared(c: i64, n: usize) -> i64
+    requires { ⌜ Within 4000000000 c ⌝ }
+    requires { ⌜ n < 14 ⌝ }
+    ensures { λ r. ⌜ r ≡ c *ℤ pos (n * n) ⌝ }
+{
+    c * (n * n) as i64
+}
+
+// The sum of the coefficients, each times n².
+pub fn square_sum(coefs: &[i64]) -> i64
+    requires { do ⌜ (← ⟦coefs.len()⟧) ≡ 14 ⌝ }
+    requires { ⌜ InRange (now coefs) ⌝ }
+    ensures { λ r. ⌜ r ≡ squareSum (now (coefs .entry)) ⌝ }
+{
+    let mut sum = 0;
+    let mut n = 1;
+    while n < 14 {
+        sum += squared(coefs[n], n);
+        n += 1;
+    }
+    sum
 }

@@ -1,26 +1,7 @@
 // The evaluator for a C program that times it: many places of one segment in one call, so that the range is judged once.
 ghost use mathlib.Core.Path.{_≡_};
-ghost use mathlib.Core.Bool.{true};
 ghost use Rattle.chebyshev.specs.Segment.{InRange};
 ghost use Rattle.chebyshev_bench.specs.Places.{valueOrZero, Filled};
-
-// Whether a segment's coefficients are in range (refusal 3).
-fn in_range(coefs: &[i64]) -> bool
-    requires { do ⌜ (← ⟦coefs.len()⟧) ≡ 14 ⌝ }
-    ensures { λ r. ⌜ (r ≡ true → InRange (now (coefs .entry))) ⌝ }
-{
-    if whole::absolute(coefs[0]) > 1000000000000000 {
-        return false;
-    }
-    let mut n = 1;
-    while n < 14 {
-        if whole::absolute(coefs[n]) > 4000000000 {
-            return false;
-        }
-        n += 1;
-    }
-    true
-}
 
 // The value at a place, or 0 outside the segment.
 fn at(x: i64, coefs: &[i64]) -> i64
@@ -46,7 +27,7 @@ pub extern "C" fn chebyshev_values(out: &mut [i64], coefs: &[i64], places: &[i64
     if places.len() != out.len() {
         return false;
     }
-    if !in_range(coefs) {
+    if chebyshev::inner::out_of_range(coefs) {
         return false;
     }
     let mut i = 0;

@@ -3,15 +3,15 @@
 use mathlib.Core.Path.{_≡_}
 use mathlib.Core.Bool.{Bool, not, _||_}
 use mathlib.Core.List.{List}
-use Prim.Native.Nat.{ℕ, zero, suc, _*_, _-_, _%_}
+use Prim.Native.Nat.{ℕ, _*_, _-_, _%_}
 use lib.Dec.{ltb, eqb}
-use lib.IntN.{ℤ, pos, negℤ, natAbs, _-ℤ_}
+use lib.IntN.{ℤ, pos, negℤ, _-ℤ_}
 use lib.Signed.{ltZ}
-use lib.ListN.{length, getD}
+use lib.ListN.{length}
 use Rattle.refusals.specs.Verdict.{Verdict, answered, accepted, refuseWhen, refusal, _before_}
-use Rattle.refusals.specs.Search.{firstBad, perSegment}
+use Rattle.refusals.specs.Search.{firstBad}
 use Rattle.chebyshev.specs.Polynomials.{S}
-use Rattle.chebyshev.specs.Segment.{value, slope}
+use Rattle.chebyshev.specs.Segment.{value, slope, outOfRange}
 use Rattle.series.specs.declared.Body.{Body}
 use Rattle.series.specs.declared.ValueAnswer.{ValueAnswer}
 use Rattle.series.specs.declared.ValueAnswer.the-variants.{Value, Refused}
@@ -27,13 +27,9 @@ judgedShape body start count =
     before refuseWhen (ltZ start (negℤ (pos 10000000000))) 2
     before refuseWhen (ltZ (pos 10000000000) start) 2
 
--- 3: |c0| ≤ 10^15, |cn| ≤ 4,000,000,000
-abbrev pub limit : ℕ → ℕ
-limit zero = 1000000000000000
-limit (suc n) = 4000000000
-
-abbrev pub outOfRange : List ℤ → ℕ → Bool
-outOfRange coefs i = ltb (limit (i % 14)) (natAbs (getD coefs i (pos 0)))
+-- 3: |c0| ≤ 10^15, |cn| ≤ 4,000,000,000 (`limit` in chebyshev's Segment)
+abbrev pub badRange : List ℤ → ℕ → Bool
+badRange coefs k = outOfRange (segment coefs k)
 
 -- 4: c1 minus the sum over n ≥ 2 of n²·|cn| is less than 100H
 abbrev pub slow : Body → List ℤ → ℕ → Bool
@@ -43,15 +39,21 @@ slow body coefs k = ltZ (slope (segment coefs k)) (pos (100 * numbers body .half
 abbrev pub rise : Body → List ℤ → ℕ → ℤ
 rise body coefs k = value (segment coefs k) (negℤ (pos S)) -ℤ value (segment coefs (k - 1)) (pos S -ℤ pos (numbers body .step))
 
+abbrev pub badRise : ℤ → Bool
+badRise units = ltZ units (pos 200) || ltZ (pos 100000) units
+
 abbrev pub badJoint : Body → List ℤ → ℕ → Bool
-badJoint body coefs k = ltZ (rise body coefs k) (pos 200) || ltZ (pos 100000) (rise body coefs k)
+badJoint body coefs k = badRise (rise body coefs k)
+
+-- each over all segments before the next: 3 of a later segment wins over 4 of an earlier one
+abbrev pub judgedSegments : Body → List ℤ → Verdict (Unit {0})
+judgedSegments body coefs =
+    firstBad 3 (badRange coefs) 0 (segments coefs)
+    before firstBad 4 (slow body coefs) 0 (segments coefs)
+    before firstBad 5 (badJoint body coefs) 1 (segments coefs - 1)
 
 unfoldable pub seriesJudged : Series → Verdict (Unit {0})
-seriesJudged s =
-    judgedShape (s .body) (s .start) (length (s .coefs))
-    before perSegment (firstBad 3 (outOfRange (s .coefs)) 0 (length (s .coefs)))
-    before firstBad 4 (slow (s .body) (s .coefs)) 0 (segments (s .coefs))
-    before firstBad 5 (badJoint (s .body) (s .coefs)) 1 (segments (s .coefs) - 1)
+seriesJudged s = judgedShape (s .body) (s .start) (length (s .coefs)) before judgedSegments (s .body) (s .coefs)
 
 abbrev pub Accepted : Series → Type 0
 Accepted s = seriesJudged s ≡ accepted

@@ -26,11 +26,13 @@ pub record BodyLaws (n : Numbers) : Type 0 where
   pub exact-step : n .step * n .halfLength ≡ S
   -- "A circle is 12,960,000,000 units."
   pub whole-circle : n .circle * n .markSize ≡ 12960000000
+  -- so small a step that rounding drops less than one unit at each of a segment's last places
+  pub small-step : 2 * (n .step * n .step) * 144 < S
   pub long : 172800 ≤ n .halfLength
   pub short : n .halfLength ≤ 1382400
   pub large-mark : 100000 < n .markSize
   pub short-span : 2 * n .halfLength * n .mostSegments ≤ 5529600000
 
 pub body-laws : (body : Body) → BodyLaws (numbers body)
-body-laws Sun = record { exact-step = refl; whole-circle = refl; long = lit≤ tt; short = lit≤ tt; large-mark = lit< tt; short-span = lit≤ tt }
-body-laws Moon = record { exact-step = refl; whole-circle = refl; long = lit≤ tt; short = lit≤ tt; large-mark = lit< tt; short-span = lit≤ tt }
+body-laws Sun = record { exact-step = refl; whole-circle = refl; small-step = lit< tt; long = lit≤ tt; short = lit≤ tt; large-mark = lit< tt; short-span = lit≤ tt }
+body-laws Moon = record { exact-step = refl; whole-circle = refl; small-step = lit< tt; long = lit≤ tt; short = lit≤ tt; large-mark = lit< tt; short-span = lit≤ tt }

@@ -35,6 +35,10 @@ moon = series Moon (pos 0) (three (pos 4103999999) (pos 864000000) (pos 0))
 abbrev pub joined : ℕ → Series
 joined c0 = series Sun (pos 0) (sunSegment ++ three (pos c0) (pos 552960000) (pos 0))
 
+-- the Moon's likewise, whose first ends with 4,967,994,999
+abbrev pub joinedMoon : ℕ → Series
+joinedMoon c0 = series Moon (pos 0) (three (pos 4103999999) (pos 864000000) (pos 0) ++ three (pos c0) (pos 864000000) (pos 0))
+
 abbrev startsAt : ℤ → Series
 startsAt start = series Sun start sunSegment
 
@@ -105,6 +109,10 @@ bothSides =
     ∷ isAccepted (seriesJudged (alone Sun (pos 0) (pos 4000000000)))
     ∷ isAccepted (seriesJudged (joined 1658979600))
     ∷ isRefusedAt (seriesJudged (joined 1658979601)) 5 1
+    ∷ isAccepted (seriesJudged (joinedMoon 5831995199))
+    ∷ isRefusedAt (seriesJudged (joinedMoon 5831995198)) 5 1
+    ∷ isAccepted (seriesJudged (joinedMoon 5832094999))
+    ∷ isRefusedAt (seriesJudged (joinedMoon 5832095000)) 5 1
     ∷ isRefused (valueOf sun (negℤ (pos 1))) 6
     ∷ isValue (pos 1105919600) (valueOf sun (pos 2764799))
     ∷ isRefused (valueOf sun (pos 2764800)) 6
@@ -123,6 +131,10 @@ order =
     ∷ isRefusedAt (seriesJudged (series Sun (pos 0) (three (pos 0) (pos 1) (pos 0) ++ three (pos 0) (pos 4000000001) (pos 0)))) 3 1
     -- 4 before 5: segment 1 badly joined, segment 2 slow
     ∷ isRefusedAt (seriesJudged (series Sun (pos 0) (sunSegment ++ sunSegment ++ three (pos 0) (pos 1) (pos 0)))) 4 2
+    -- 3 before 5: segment 1 badly joined, a coefficient of segment 2 out of range
+    ∷ isRefusedAt (seriesJudged (series Sun (pos 0) (sunSegment ++ sunSegment ++ three (pos 0) (pos 4000000001) (pos 0)))) 3 2
+    -- of two segments out of range, the first
+    ∷ isRefusedAt (seriesJudged (series Sun (pos 0) (sunSegment ++ three (pos 0) (pos 4000000001) (pos 0) ++ three (pos 0) (pos 4000000001) (pos 0)))) 3 1
     -- of two slow segments, the first; of two bad joints, the later segment of the first
     ∷ isRefusedAt (seriesJudged (series Sun (pos 0) (sunSegment ++ three (pos 0) (pos 1) (pos 0) ++ three (pos 0) (pos 1) (pos 0)))) 4 1
     ∷ isRefusedAt (seriesJudged (series Sun (pos 0) (sunSegment ++ sunSegment ++ sunSegment))) 5 1

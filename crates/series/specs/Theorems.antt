@@ -3,13 +3,13 @@
 use mathlib.Core.Path.{_≡_}
 use mathlib.Core.Logic.{_↔_}
 use mathlib.Core.List.{[], _∷_}
-use Prim.Native.Nat.{ℕ, _*_}
+use Prim.Native.Nat.{_*_}
 use native.Mathlib.Omega.{arith}
 use lib.IntN.{ℤ, pos, natAbs, _+ℤ_, _-ℤ_, _*ℤ_}
 use Rattle.whole.specs.Parts.{_≺_}
 use Rattle.whole.specs.Solver.{⇑, ⇓, ring}
 use Rattle.chebyshev.specs.Segment.{divisor, allowance}
-use Rattle.chebyshev.specs.Between.{abs-below, abs-above}
+use Rattle.chebyshev.specs.theory.Between.{abs-below, abs-above}
 use Rattle.chebyshev.specs.Theorems.{divisor-positive, value-near-exact}
 use Rattle.series.specs.declared.Body.{Body}
 use Rattle.series.specs.Bodies.{numbers, body-laws}

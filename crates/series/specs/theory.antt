@@ -1,4 +1,5 @@
 pub mod Known
+pub mod Kept
 pub mod Place
 pub mod Span
 pub mod Steps

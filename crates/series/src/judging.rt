@@ -1,19 +1,22 @@
-// Judging a series: each rule over all segments, and the first segment that breaks it.
+// Judging a series: its shape, then its segments in one pass, and the first segment that breaks the lowest rule.
 use crate::Body;
 use refusals::Check;
 use refusals::Refusal;
 use times::Second;
 ghost use mathlib.Core.Path.{_≡_};
-ghost use Prim.Native.Nat.{_*_, _-_, _<_, _≤_};
-ghost use lib.ListN.{length};
-ghost use lib.IntN.{pos, _-ℤ_};
+ghost use mathlib.Core.Bool.{false, cond};
+ghost use Prim.Native.Nat.{_*_};
+ghost use lib.Dec.{eqb};
+ghost use lib.IntN.{pos, negℤ, _-ℤ_};
+ghost use lib.Signed.{ltZ};
+ghost use Rattle.whole.specs.Floor.{floorDiv};
+ghost use Rattle.whole.specs.Ranges.{Within};
 ghost use Rattle.chebyshev.specs.Polynomials.{S};
+ghost use Rattle.chebyshev.specs.Segment.{value, slope, InRange};
+ghost use Rattle.refusals.specs.Verdict.{accepted, paperCheck};
 ghost use Rattle.series.specs.Bodies.{numbers};
-ghost use Rattle.refusals.specs.Verdict.{paperCheck};
-ghost use Rattle.refusals.specs.Search.{firstBad, perSegment};
-ghost use Rattle.series.specs.Series.{segments};
-ghost use Rattle.series.specs.Acceptance.{judgedShape, outOfRange, slow, rise, badJoint, limit};
-ghost use Rattle.series.specs.Facts.{Ranged};
+ghost use Rattle.series.specs.Acceptance.{judgedShape, badRise, judgedSegments};
+ghost use Rattle.series.specs.theory.Kept.{firstOf, found};
 
 // The most coefficients that a series may have.
 fn most(body: Body) -> usize
@@ -48,107 +51,116 @@ pub fn shape(body: Body, start: Second, count: usize) -> Check
     Check::Accepted
 }
 
-// The limit of the n-th coefficient of a segment.
-fn limit_of(n: usize) -> u64
-    ensures { λ r. ⌜ r ≡ limit n ⌝ }
+// A sum divided by H and rounded down. A multiple of H is added first, so that an unsigned division by a constant does it.
+fn floor_by_half(body: Body, t: i64) -> i64
+    requires { ⌜ Within 10000000000000 t ⌝ }
+    ensures { λ r. ⌜ r ≡ floorDiv t (numbers body .halfLength) ⌝ }
 {
-    if n == 0 { 1000000000000000 } else { 4000000000 }
-}
-
-// 3: the first segment that has a coefficient out of range.
-pub fn ranges(coefs: &[i64]) -> Check
-    ensures { λ r. ⌜ paperCheck r ≡ perSegment (firstBad 3 (outOfRange (now (coefs .entry))) 0 (length (now (coefs .entry)))) ⌝ }
-{
-    let mut i = 0;
-    while i < coefs.len() {
-        if limit_of(i % 14) < whole::absolute(coefs[i]) {
-            return Check::Refused(Refusal {
-                number: 3,
-                segment: i / 14,
-            });
-        }
-        i += 1;
+    match body {
+        Body::Sun => ((t + 11596411699200) as u64 / 1382400) as i64 - 8388608,
+        Body::Moon => ((t + 11596411699200) as u64 / 172800) as i64 - 67108864,
     }
-    Check::Accepted
 }
 
-// Whether segment k rises too slowly.
-fn too_slow(body: Body, coefs: &[i64], k: usize) -> bool
-    requires { ⌜ Ranged (now coefs) ⌝ }
-    requires { ⌜ k < segments (now coefs) ⌝ }
-    ensures { λ r. ⌜ r ≡ slow body (now (coefs .entry)) k ⌝ }
+// The values at a segment's first and last second.
+struct Ends {
+    first: i64,
+    last: i64,
+}
+
+// Both by their closed forms (`first-value`, `last-value`), which share two sums.
+fn ends_of(body: Body, part: &[i64]) -> Ends
+    requires { do ⌜ (← ⟦part.len()⟧) ≡ 14 ⌝ }
+    requires { ⌜ InRange (now part) ⌝ }
+    ensures { λ r. ⌜ r .first ≡ value (now (part .entry)) (negℤ (pos S)) ⌝ }
+    ensures { λ r. ⌜ r .last ≡ value (now (part .entry)) (pos S -ℤ pos (numbers body .step)) ⌝ }
+{
+    let even = chebyshev::inner::even_sum(part);
+    let odd = chebyshev::inner::odd_sum(part);
+    let down = whole::inner::subtract(0, chebyshev::inner::square_sum(part));
+    let first = whole::inner::subtract(even, odd);
+    let sum = whole::inner::add(even, odd);
+    let last = whole::inner::add(sum, floor_by_half(body, down));
+    Ends {
+        first: first,
+        last: last,
+    }
+}
+
+// Whether a segment rises too slowly.
+fn too_slow(body: Body, part: &[i64]) -> bool
+    requires { do ⌜ (← ⟦part.len()⟧) ≡ 14 ⌝ }
+    requires { ⌜ InRange (now part) ⌝ }
+    ensures { λ r. ⌜ r ≡ ltZ (slope (now (part .entry))) (pos (100 * numbers body .halfLength)) ⌝ }
 {
     let least = whole::inner::signed(100 * crate::inner::half_length(body));
-    let part = crate::inner::segment_of(coefs, k);
     chebyshev::inner::slope(part) < least
 }
 
-// 4: the first segment that rises too slowly.
-pub fn slopes(body: Body, coefs: &[i64]) -> Check
-    requires { ⌜ Ranged (now coefs) ⌝ }
-    ensures { λ r. ⌜ paperCheck r ≡ firstBad 4 (slow body (now (coefs .entry))) 0 (segments (now (coefs .entry))) ⌝ }
+// Whether segment k, which begins with the value `first`, does not join the one before it, which ends with `last`. Segment 0 joins none.
+fn joins_badly(k: usize, last: i64, first: i64) -> bool
+    requires { ⌜ Within 1000100000000000 last ⌝ }
+    requires { ⌜ Within 1000100000000000 first ⌝ }
+    ensures { λ r. ⌜ r ≡ cond (eqb k 0) false (badRise (first -ℤ last)) ⌝ }
 {
-    let mut k = 0;
-    while k < coefs.len() / 14 {
-        if too_slow(body, coefs, k) {
-            return Check::Refused(Refusal {
-                number: 4,
-                segment: k,
-            });
-        }
-        k += 1;
+    let rise = whole::inner::subtract(first, last);
+    if k == 0 {
+        return false;
     }
-    Check::Accepted
-}
-
-// The place of a segment's last second.
-fn last_place(body: Body) -> i64
-    ensures { λ r. ⌜ r ≡ pos S -ℤ pos (numbers body .step) ⌝ }
-{
-    match body {
-        Body::Sun => 66355152,
-        Body::Moon => 66354816,
-    }
-}
-
-// How much the value rises from the last second before segment k to its first.
-fn rise_at(body: Body, coefs: &[i64], k: usize) -> i64
-    requires { ⌜ Ranged (now coefs) ⌝ }
-    requires { ⌜ 1 ≤ k ⌝ }
-    requires { ⌜ k < segments (now coefs) ⌝ }
-    ensures { λ r. ⌜ r ≡ rise body (now (coefs .entry)) k ⌝ }
-{
-    let before = crate::inner::segment_of(coefs, k - 1);
-    let here = crate::inner::segment_of(coefs, k);
-    let last = chebyshev::inner::value(last_place(body), before);
-    whole::inner::subtract(chebyshev::inner::value(-66355200, here), last)
-}
-
-// Whether segment k does not join the one before it.
-fn badly_joined(body: Body, coefs: &[i64], k: usize) -> bool
-    requires { ⌜ Ranged (now coefs) ⌝ }
-    requires { ⌜ 1 ≤ k ⌝ }
-    requires { ⌜ k < segments (now coefs) ⌝ }
-    ensures { λ r. ⌜ r ≡ badJoint body (now (coefs .entry)) k ⌝ }
-{
-    let rise = rise_at(body, coefs, k);
     rise < 200 || 100000 < rise
 }
 
-// 5: the first segment that does not join the one before it.
-pub fn joints(body: Body, coefs: &[i64]) -> Check
-    requires { ⌜ Ranged (now coefs) ⌝ }
-    ensures { λ r. ⌜ paperCheck r ≡ firstBad 5 (badJoint body (now (coefs .entry))) 1 (segments (now (coefs .entry)) - 1) ⌝ }
+// The first bad segment of `count` so far: the one kept, or k.
+fn first_of(kept: usize, count: usize, bad: bool, k: usize) -> usize
+    ensures { λ r. ⌜ r ≡ firstOf kept count bad k ⌝ }
 {
-    let mut k = 1;
-    while k < coefs.len() / 14 {
-        if badly_joined(body, coefs, k) {
+    if kept < count {
+        return kept;
+    }
+    if bad { k } else { kept }
+}
+
+// 4 at the slow segment that was kept, or else 5 at the joint that was.
+fn kept_refusal(count: usize, slow: usize, joint: usize) -> Check
+    ensures { λ r. ⌜ paperCheck r ≡ found 4 slow count (found 5 joint count accepted) ⌝ }
+{
+    if slow < count {
+        return Check::Refused(Refusal {
+            number: 4,
+            segment: slow,
+        });
+    }
+    if joint < count {
+        return Check::Refused(Refusal {
+            number: 5,
+            segment: joint,
+        });
+    }
+    Check::Accepted
+}
+
+// 3, 4 and 5 in one pass. 3 refuses at once; the first slow segment and the first bad joint are kept until 3 is known of all.
+pub fn each_segment(body: Body, coefs: &[i64]) -> Check
+    ensures { λ r. ⌜ paperCheck r ≡ judgedSegments body (now (coefs .entry)) ⌝ }
+{
+    let count = coefs.len() / 14;
+    let mut slow = count;
+    let mut joint = count;
+    let mut last: i64 = 0;
+    let mut k = 0;
+    while k < count {
+        let part = crate::inner::segment_of(coefs, k);
+        if chebyshev::inner::out_of_range(part) {
             return Check::Refused(Refusal {
-                number: 5,
+                number: 3,
                 segment: k,
             });
         }
+        slow = first_of(slow, count, too_slow(body, part), k);
+        let ends = ends_of(body, part);
+        joint = first_of(joint, count, joins_badly(k, last, ends.first), k);
+        last = ends.last;
         k += 1;
     }
-    Check::Accepted
+    kept_refusal(count, slow, joint)
 }

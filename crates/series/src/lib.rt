@@ -28,15 +28,7 @@ pub fn accept(body: Body, start: Second, coefs: &[i64]) -> Check
     if let Check::Refused(r) = shape {
         return Check::Refused(r);
     }
-    let ranges = judging::ranges(coefs);
-    if let Check::Refused(r) = ranges {
-        return Check::Refused(r);
-    }
-    let slopes = judging::slopes(body, coefs);
-    if let Check::Refused(r) = slopes {
-        return Check::Refused(r);
-    }
-    judging::joints(body, coefs)
+    judging::each_segment(body, coefs)
 }
 
 // The value at a second, or a refusal by 2 to 5, or by 6 outside the span.

@@ -1,7 +1,7 @@
 -- `chebyshev_bench::chebyshev_values` meets its contract. The invariant: the values below i are written. Assumes nothing.
 use borrow.Author.Needs.{needs}
 use borrow.Author.Count.{below-more}
-use mathlib.Core.Bool.{Bool, true, false, not}
+use mathlib.Core.Bool.{true, false}
 use mathlib.Core.Path.{_≡_, refl, sym, ap, subst, _∙_}
 use mathlib.Core.List.{List}
 use Prim.Native.Nat.{ℕ, _-_, _≤_, _<_}
@@ -13,6 +13,7 @@ use lib.Seq.{getD-set-same, getD-set-other}
 use mir.Syntax.{w64}
 use mir.Val.{SFits, toZ, ofZ}
 use mir.Facts.{toZ-ofZ}
+use Rattle.chebyshev.specs.Theorems.{in-range-exactly}
 use Rattle.chebyshev_bench.specs.Places.{valueOrZero}
 use Rattle.chebyshev_bench.proofs.chebyshev_values.Statement.{statement}
 use Rattle.chebyshev_bench.proofs.chebyshev_values.Tie as tie
@@ -28,18 +29,14 @@ Inv-loop out₀ coefs places i₀ out i = Passed coefs places out₀ out i
 abbrev μ-loop : tie.MeasureT-loop
 μ-loop out₀ coefs places i₀ out i = length out₀ - i
 
-accepted : (b : Bool) → not b ≡ false → b ≡ true
-accepted true e = refl
-accepted false e = sym e
-
 returns : tie.Need-returns Inv-loop μ-loop
 returns c = record { same-length = refl; values = λ (e : false ≡ true). absurd (subst T (sym e) tt); refused = λ e. refl }
 
 returns-2 : tie.Need-returns-2 Inv-loop μ-loop
 returns-2 c = record { same-length = refl; values = λ (e : false ≡ true). absurd (subst T (sym e) tt); refused = λ e. refl }
 
-in-range-requires : tie.Need-in-range-requires Inv-loop μ-loop
-in-range-requires c κs = search needs
+out-of-range-requires : tie.Need-out-of-range-requires Inv-loop μ-loop
+out-of-range-requires c κs = search needs
 
 returns-3 : tie.Need-returns-3 Inv-loop μ-loop
 returns-3 c = record { same-length = refl; values = λ (e : false ≡ true). absurd (subst T (sym e) tt); refused = λ e. refl }
@@ -56,7 +53,8 @@ shared-slice-copy-out-at c = search needs
 at-requires : tie.Need-at-requires Inv-loop μ-loop
 at-requires c κs =
     let l = c .before .before in
-    (omega arith, l .before .before .in-range .ensures (accepted _ (l .before .if3 .left)))
+    let start = l .before .before .before .before .before in
+    (omega arith, in-range-exactly (start .args .coefs .now) (omega arith) .0 (sym (l .before .before .out-of-range .ensures) ∙ l .before .if3 .left))
 
 mul-t14 : tie.Need-mul-t14 Inv-loop μ-loop
 mul-t14 c = search needs
@@ -104,7 +102,7 @@ chebyshev-values-spec =
     μ-loop
     returns
     returns-2
-    in-range-requires
+    out-of-range-requires
     returns-3
     loop-holds
     mul-at

@@ -9,7 +9,7 @@ use mir.Val.{ofZ, toZ}
 use Rattle.refusals.specs.Verdict.{Verdict, accepted, answered, _before_, refused-first, accepted-is, test-refuses, test-passes}
 use Rattle.whole.specs.Ranges.{back}
 use Rattle.whole.specs.Solver.{lt-no}
-use Rattle.series.specs.Series.{Series, series, lastSecond, InSpan}
+use Rattle.series.specs.Series.{Series, series, lastSecond}
 use Rattle.series.specs.Acceptance.{Accepted, valueOf}
 use Rattle.series.proofs.value_at.Statement.{statement}
 use Rattle.series.proofs.value_at.Tie as tie

@@ -1,79 +1,32 @@
 -- Acceptance, taken apart: each refusal that was not given, as a fact, and back again. Assumes nothing.
-use mathlib.Core.Path.{_≡_, refl, ap, _∙_, subst}
-use mathlib.Core.Bool.{Bool, true, false, not}
-use mathlib.Core.List.{List, [], _∷_}
+use mathlib.Core.Path.{_≡_, refl, ap}
+use mathlib.Core.Bool.{false, not}
+use mathlib.Core.List.{List}
 use Prim.Native.Nat.{ℕ, zero, suc, _+_, _*_, _-_, _/_, _%_, _<_, _≤_}
 use native.Mathlib.Omega.{arith}
-use native.Mathlib.Nat.{div-add-mod', mod-lt}
-use native.Mathlib.Decide.{decLt}
+use native.Mathlib.Nat.{div-add-mod'}
 use borrow.Author.Tests.{ltb-false, eqb-true, eqb-false, not-false, eq-eqb, ne-eqb, le-ltb}
-use lib.Dec.{eqb}
-use lib.IntN.{ℤ, pos, negℤ, natAbs}
+use lib.IntN.{ℤ, pos, negℤ}
 use lib.Signed.{_≤ℤ_, ltZ}
-use lib.ListN.{length, getD, take, drop, length-drop}
-use lib.Seq.{getD-take, getD-drop, length-take-le}
-use Rattle.whole.specs.Ranges.{Within}
+use lib.ListN.{length, take, drop, length-drop}
+use lib.Seq.{length-take-le}
 use Rattle.whole.specs.Booleans.{neither, none-of}
 use Rattle.whole.specs.Solver.{lt-no, no-lt}
 use Rattle.refusals.specs.Verdict.{accepted, before-accepted, both-accepted, refuseWhen-accepted, accepted-when}
-use Rattle.refusals.specs.Search.{firstBad, firstBad-none, none-firstBad, perSegment, perSegment-accepted}
-use Rattle.chebyshev.specs.Segment.{InRange, coefficient}
+use Rattle.refusals.specs.Search.{firstBad, firstBad-none, none-firstBad}
+use Rattle.chebyshev.specs.Theorems.{in-range-exactly}
 use Rattle.series.specs.Bodies.{numbers}
 use Rattle.series.specs.Series.{Series, segment, segments}
-use Rattle.series.specs.Acceptance.{seriesJudged, judgedShape, Accepted, limit, outOfRange, slow, rise, badJoint}
+use Rattle.series.specs.Acceptance.{seriesJudged, judgedShape, Accepted, badRange, slow, rise, badJoint}
 use Rattle.series.specs.Facts.{Ranged, Facts}
 
--- ---- a segment's coefficients are the list's
-coefficient-is : (coefs : List ℤ) (k n : ℕ) → n < 14 → coefficient (segment coefs k) n ≡ getD coefs (14 * k + n) (pos 0)
-coefficient-is coefs k n h = rw (getD-take, getD-drop)
-
--- a list that ends before an index has nothing there
-past-end : (l : List ℤ) (n : ℕ) → length l ≤ n → getD l n (pos 0) ≡ pos 0
-past-end [] n h = refl
-past-end (x ∷ l) zero h = absurd (omega arith)
-past-end (x ∷ l) (suc n) h = past-end l n (omega arith)
-
+-- ---- a segment is fourteen coefficients of the list
 pub segment-length : (coefs : List ℤ) (k : ℕ) → k < segments coefs → length (segment coefs k) ≡ 14
 segment-length coefs k h = length-take-le 14 (drop (14 * k) coefs) (rw length-drop (omega (arith, div-add-mod' (length coefs) 14)))
 
 -- the part of the lent coefficients from 14k on is the segment
 pub part-is-segment : (coefs : List ℤ) (k : ℕ) → take (14 * k + 14 - 14 * k) (drop (14 * k) coefs) ≡ segment coefs k
 part-is-segment coefs k = let fourteen : 14 * k + 14 - 14 * k ≡ 14 = omega arith in rw fourteen
-
--- ---- 3
-place-of : (k n : ℕ) → n < 14 → (14 * k + n) % 14 ≡ n
-place-of k n h = omega (arith, div-add-mod' (14 * k + n) 14, mod-lt (14 * k + n) {m = 14} (omega arith))
-
-module _ (coefs : List ℤ) (w : length coefs ≡ 14 * segments coefs) (none : (i : ℕ) → i < length coefs → outOfRange coefs i ≡ false) where
-  bounded : (k n : ℕ) → k < segments coefs → n < 14 → natAbs (coefficient (segment coefs k) n) ≤ limit n
-  bounded k n h l = rw (coefficient-is coefs k n l) (subst (λ (m : ℕ). natAbs (getD coefs (14 * k + n) (pos 0)) ≤ limit m) (place-of k n l) (ltb-false _ _ (none (14 * k + n) (omega arith))))
-
-  in-range : (k : ℕ) → k < segments coefs → InRange (segment coefs k)
-  in-range k h = record { constant = record { within = bounded k 0 h (omega arith) }; others = others }
-    where
-      others : (n : ℕ) → 1 ≤ n → Within 4000000000 (coefficient (segment coefs k) n)
-      others zero l = absurd (omega arith)
-      others (suc n) l = go (decLt (suc n) 14)
-        where
-          go : Dec (suc n < 14) → Within 4000000000 (coefficient (segment coefs k) (suc n))
-          go (yes m) = record { within = bounded k (suc n) h m }
-          go (no m) = record { within = rw (past-end (segment coefs k) (suc n) (omega (arith, segment-length coefs k h))) (omega arith) }
-
-  ranged : Ranged coefs
-  ranged = record { whole-segments = w; in-range = in-range }
-
--- and back
-module _ (coefs : List ℤ) (r : Ranged coefs) where
-  within-limit : (k n : ℕ) → k < segments coefs → natAbs (coefficient (segment coefs k) n) ≤ limit n
-  within-limit k zero h = r .in-range k h .constant .within
-  within-limit k (suc n) h = r .in-range k h .others (suc n) (omega arith) .within
-
-  in-limit : (i : ℕ) → i < length coefs → outOfRange coefs i ≡ false
-  in-limit i h =
-      let rest : i % 14 < 14 = mod-lt i {m = 14} (omega arith) in
-      let whole : 14 * (i / 14) + i % 14 ≡ i = omega (arith, div-add-mod' i 14) in
-      let there : coefficient (segment coefs (i / 14)) (i % 14) ≡ getD coefs i (pos 0) = coefficient-is coefs (i / 14) (i % 14) rest ∙ ap (λ (m : ℕ). getD coefs m (pos 0)) whole in
-      le-ltb _ _ (rw there at (within-limit (i / 14) (i % 14) (omega (arith, div-add-mod' i 14, r .whole-segments))))
 
 -- ---- all of them
 module _ (s : Series) where
@@ -95,8 +48,11 @@ module _ (s : Series) where
       go zero p q r = absurd (q (omega (arith, div-add-mod' count 14)))
       go (suc n) p q r = omega arith
 
-  pub ranged-known : judgedShape (s .body) (s .start) count ≡ accepted → perSegment (firstBad 3 (outOfRange (s .coefs)) 0 count) ≡ accepted → Ranged (s .coefs)
-  ranged-known e f = ranged (s .coefs) (shape-known e .0) (λ i h. firstBad-none 3 (outOfRange (s .coefs)) 0 count (perSegment-accepted _ f) i (omega arith) (omega arith))
+  ranged-known : judgedShape (s .body) (s .start) count ≡ accepted → firstBad 3 (badRange (s .coefs)) 0 (segments (s .coefs)) ≡ accepted → Ranged (s .coefs)
+  ranged-known e f = record {
+    whole-segments = shape-known e .0;
+    in-range = λ k h. in-range-exactly (segment (s .coefs) k) (segment-length (s .coefs) k h) .0 (firstBad-none 3 (badRange (s .coefs)) 0 (segments (s .coefs)) f k (omega arith) (omega arith));
+  }
 
   pub facts : Accepted s → Facts s
   unfolding seriesJudged
@@ -135,7 +91,7 @@ module _ (s : Series) where
     unfolding seriesJudged
     facts-suffice =
         both-accepted _ _ shape-good
-        (both-accepted _ _ (ap perSegment (none-firstBad 3 (outOfRange (s .coefs)) 0 count (λ i l h. in-limit (s .coefs) (f .ranged) i (omega arith))))
+        (both-accepted _ _ (none-firstBad 3 (badRange (s .coefs)) 0 (segments (s .coefs)) (λ k l h. in-range-exactly (segment (s .coefs) k) (segment-length (s .coefs) k (omega arith)) .1 (f .ranged .in-range k (omega arith))))
         (both-accepted _ _ (none-firstBad 4 (slow (s .body) (s .coefs)) 0 (segments (s .coefs)) (λ k l h. no-lt (f .fast k (omega arith))))
         (none-firstBad 5 (badJoint (s .body) (s .coefs)) 1 (segments (s .coefs) - 1)
         (λ k l h. none-of _ _ (no-lt (f .joined-least k l (omega arith))) (no-lt (f .joined-most k l (omega arith)))))))

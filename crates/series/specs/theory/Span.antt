@@ -1,7 +1,7 @@
 -- Where a second of the span lies: how far from the start, in which segment, at which place; that an accepted series has a second, few enough of them, and
 -- small enough values. Assumes nothing.
-use mathlib.Core.List.{List, [], _∷_}
-use Prim.Native.Nat.{ℕ, _*_, _/_, _%_, _<_, _≤_}
+use mathlib.Core.List.{[], _∷_}
+use Prim.Native.Nat.{ℕ, _*_, _%_, _<_, _≤_}
 use native.Mathlib.Omega.{arith}
 use native.Mathlib.Nat.{mod-lt, mul-le-mul, le-refl, div-lt-iff-lt-mul}
 use lib.Dec.{lit≤}

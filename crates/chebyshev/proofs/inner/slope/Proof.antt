@@ -1,15 +1,14 @@
 -- `chebyshev::inner::slope` meets its contract. The invariant: what is left is c1 less the weights below n. Assumes nothing.
 use borrow.Author.Needs.{needs}
 use mathlib.Core.Path.{_≡_, ap, _∙_}
-use mathlib.Core.List.{List}
-use Prim.Native.Nat.{ℕ, _-_, _*_, _≤_}
+use Prim.Native.Nat.{_-_, _*_}
 use native.Mathlib.Omega.{arith}
 use lib.IntN.{ℤ, pos, natAbs}
 use mir.Syntax.{w64}
 use mir.Val.{toZ, ofZ}
 use mir.Facts.{toZ-ofZ}
-use Rattle.whole.specs.Ranges.{fit-hyp}
-use Rattle.chebyshev.specs.Segment.{coefficient, InRange}
+use Rattle.chebyshev.specs.Segment.{coefficient}
+use Rattle.chebyshev.proofs.Read.{coefficient-back}
 use Rattle.chebyshev.proofs.Fall.{Left, left-start, left-turn, left-end, difference-fits}
 use Rattle.chebyshev.proofs.inner.slope.Statement.{statement}
 use Rattle.chebyshev.proofs.inner.slope.Tie as tie
@@ -20,15 +19,11 @@ Inv-loop coefs left₀ n₀ left n = Left coefs (toZ w64 left) n
 abbrev μ-loop : tie.MeasureT-loop
 μ-loop coefs left₀ n₀ left n = 14 - n
 
--- a coefficient, as it is read back
-back : {c : List ℤ} → InRange c → (n : ℕ) → 1 ≤ n → toZ w64 (ofZ w64 (coefficient c n)) ≡ coefficient c n
-back r n l = toZ-ofZ (fit-hyp (r .others n l) tt)
-
 shared-slice-copy-out-left : tie.Need-shared-slice-copy-out-left Inv-loop μ-loop
 shared-slice-copy-out-left c = search needs
 
 loop-holds : tie.Need-loop-holds Inv-loop μ-loop
-loop-holds c = let r = c .before .pre .1 in rw (back r 1 (omega arith)) (left-start r)
+loop-holds c = let r = c .before .pre .1 in rw (coefficient-back r 1 (omega arith)) (left-start r)
 
 mul-weight : tie.Need-mul-weight Inv-loop μ-loop
 mul-weight c = search needs
@@ -41,14 +36,14 @@ weight-requires c κs =
     let l = c .before .before in
     let r = l .before .before .pre .1 in
     let low = l .loop .inv .low in
-    (rw (back r (l .loop .n) (omega arith)) (r .others (l .loop .n) (omega arith)), omega arith)
+    (rw (coefficient-back r (l .loop .n) (omega arith)) (r .others (l .loop .n) (omega arith)), omega arith)
 
 -- what the call gives
 weighed : (c : tie.After-weight Inv-loop μ-loop) → toZ w64 (ofZ w64 (c .weight .result)) ≡ pos (c .before .before .before .loop .n * c .before .before .before .loop .n * natAbs (coefficient (c .before .before .before .before .before .args .coefs .now) (c .before .before .before .loop .n)))
 weighed c =
     let l = c .before .before .before in
     let low = l .loop .inv .low in
-    toZ-ofZ (record { sfits = c .weight .ok }) ∙ c .weight .ensures ∙ ap (λ (z : ℤ). pos (l .loop .n * l .loop .n * natAbs z)) (back (l .before .before .pre .1) (l .loop .n) (omega arith))
+    toZ-ofZ (record { sfits = c .weight .ok }) ∙ c .weight .ensures ∙ ap (λ (z : ℤ). pos (l .loop .n * l .loop .n * natAbs z)) (coefficient-back (l .before .before .pre .1) (l .loop .n) (omega arith))
 
 sub-left : tie.Need-sub-left Inv-loop μ-loop
 sub-left c =

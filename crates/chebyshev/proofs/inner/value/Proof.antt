@@ -2,10 +2,8 @@
 -- Assumes nothing.
 use borrow.Author.Needs.{needs}
 use mathlib.Core.Path.{_≡_, ap, _∙_}
-use mathlib.Core.List.{List}
-use Prim.Native.Nat.{ℕ, _-_, _≤_, _<_}
+use Prim.Native.Nat.{_-_, _<_}
 use native.Mathlib.Omega.{arith}
-use lib.IntN.{ℤ}
 use mir.Syntax.{w64}
 use mir.Val.{toZ, ofZ}
 use mir.Facts.{toZ-ofZ}
@@ -13,6 +11,7 @@ use Rattle.whole.specs.Ranges.{Within, fits, fit-hyp, within, bounds}
 use Rattle.whole.specs.Floor.{floorDiv}
 use Rattle.chebyshev.specs.Polynomials.{S}
 use Rattle.chebyshev.specs.Segment.{coefficient, InRange, value}
+use Rattle.chebyshev.proofs.Read.{coefficient-back, constant-back}
 use Rattle.chebyshev.proofs.Turn.{Held, held-start, held-turn, held-end, before-small, here-small, total-small, after-small, product-fits, sum-fits, result-fits}
 use Rattle.chebyshev.proofs.inner.value.Statement.{statement}
 use Rattle.chebyshev.proofs.inner.value.Tie as tie
@@ -26,13 +25,6 @@ abbrev μ-loop : tie.MeasureT-loop
 -- the place, as the loop reads it
 place : (s : tie.Start Inv-loop μ-loop) → Within S (toZ w64 (ofZ w64 (s .args .x)))
 place s = rw (toZ-ofZ (s .fits .x)) (s .pre .1 .1)
-
--- a coefficient, as it is read back
-coefficient-back : {c : List ℤ} → InRange c → (n : ℕ) → 1 ≤ n → toZ w64 (ofZ w64 (coefficient c n)) ≡ coefficient c n
-coefficient-back r n l = toZ-ofZ (fit-hyp (r .others n l) tt)
-
-constant-back : {c : List ℤ} → InRange c → toZ w64 (ofZ w64 (coefficient c 0)) ≡ coefficient c 0
-constant-back r = toZ-ofZ (fit-hyp (r .constant) tt)
 
 shared-slice-copy-out-sum : tie.Need-shared-slice-copy-out-sum Inv-loop μ-loop
 shared-slice-copy-out-sum c = search needs

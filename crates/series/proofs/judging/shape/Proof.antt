@@ -1,11 +1,11 @@
 -- `series::judging::shape` meets its contract: each test that is passed goes on to the next. Assumes nothing.
-use Prim.Native.Nat.{ℕ, _%_, _*_, _<_, _≤_}
+use Prim.Native.Nat.{_%_, _*_}
 use borrow.Author.Needs.{needs}
 use borrow.Author.Tests.{eq-eqb, ne-eqb, lt-ltb, le-ltb}
 use lib.Dec.{eqb, ltb}
-use lib.IntN.{ℤ, pos, negℤ}
+use lib.IntN.{pos, negℤ}
 use lib.Signed.{ltZ}
-use mathlib.Core.Bool.{true, false, not}
+use mathlib.Core.Bool.{false, not}
 use mathlib.Core.Path.{_≡_, ap, _∙_}
 use mir.Syntax.{w64}
 use mir.Val.{ofZ, toZ}

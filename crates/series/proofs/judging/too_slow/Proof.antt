@@ -6,7 +6,6 @@ use mathlib.Core.Path.{_≡_, ap, _∙_}
 use native.Mathlib.Omega.{arith}
 use Rattle.whole.specs.Ranges.{back}
 use Rattle.series.specs.Bodies.{numbers, body-laws}
-use Rattle.series.specs.theory.Known.{segment-length}
 use Rattle.series.proofs.judging.too_slow.Statement.{statement}
 use Rattle.series.proofs.judging.too_slow.Tie as tie
 
@@ -19,29 +18,17 @@ mul-signed c = record { fits = omega (arith, c .half-length .ensures, body-laws 
 signed-requires : tie.Need-signed-requires
 signed-requires c κs = omega (arith, c .half-length .ensures, body-laws (c .before .args .body) .short)
 
-segment-of-requires : tie.Need-segment-of-requires
-segment-of-requires c κs = search needs
-
 slope-requires : tie.Need-slope-requires
-slope-requires c κs =
-    let start = c .before .before .before in
-    rw (c .segment-of .ensures) (segment-length (start .args .coefs .now) (start .args .k) (start .pre .1), start .pre .0 .in-range (start .args .k) (start .pre .1))
+slope-requires c κs = search needs
 
 returns : tie.Need-returns
 returns c =
-    let part = c .before in
-    let signed = part .before in
+    let signed = c .before in
     let start = signed .before .before in
     let least : signed .signed .result ≡ pos (100 * numbers (start .args .body) .halfLength) = signed .signed .ensures ∙ ap (λ (n : ℕ). pos (100 * n)) (signed .before .half-length .ensures) in
-    rw (back (c .slope .result) (c .slope .ok), back (signed .signed .result) (signed .signed .ok), c .slope .ensures, part .segment-of .ensures, least)
+    rw (back (c .slope .result) (c .slope .ok), back (signed .signed .result) (signed .signed .ok), c .slope .ensures, least)
 
 pub too-slow-spec : {M : Type 1} → statement M
 too-slow-spec =
     tie.close
-    (tie.spec
-    half-length-requires
-    mul-signed
-    signed-requires
-    segment-of-requires
-    slope-requires
-    returns)
+    (tie.spec half-length-requires mul-signed signed-requires slope-requires returns)

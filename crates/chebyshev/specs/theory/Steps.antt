@@ -11,10 +11,10 @@ use Rattle.whole.specs.Laws.{abs-*, abs→, *-nonneg}
 use Rattle.whole.specs.Solver.{⇑, ⇓, ring}
 use Rattle.chebyshev.specs.Polynomials.{Q}
 use Rattle.chebyshev.specs.Segment.{sum}
-use Rattle.chebyshev.specs.Pell.{Q-within}
-use Rattle.chebyshev.specs.Forced.{Forced, forced-within}
-use Rattle.chebyshev.specs.Sums.{weights, sum-linear, sum-first, sum-weighed, sum-pos}
-use Rattle.chebyshev.specs.Nearness.{power-apart}
+use Rattle.chebyshev.specs.theory.Pell.{Q-within}
+use Rattle.chebyshev.specs.theory.Forced.{Forced, forced-within}
+use Rattle.chebyshev.specs.theory.Sums.{weights, sum-linear, sum-first, sum-weighed, sum-pos}
+use Rattle.chebyshev.specs.theory.Nearness.{power-apart}
 
 module _ (s x y : ℤ) where
   -- the divided difference of Q

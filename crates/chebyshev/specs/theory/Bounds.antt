@@ -12,8 +12,9 @@ use Rattle.whole.specs.Floor.{floorDiv}
 use Rattle.whole.specs.Ranges.{Within}
 use Rattle.chebyshev.specs.Polynomials.{S, P}
 use Rattle.chebyshev.specs.Segment.{coefficient, sum, allowance, InRange, slope}
-use Rattle.chebyshev.specs.Rounding.{P-within}
-use Rattle.chebyshev.specs.Sums.{weights, sum-pos}
+use Rattle.chebyshev.specs.EndValues.{evenSum, oddSum, squareSum}
+use Rattle.chebyshev.specs.theory.Rounding.{P-within}
+use Rattle.chebyshev.specs.theory.Sums.{weights, sum-pos}
 
 -- |P(n)| ≤ S + 78 for n ≤ 13
 pub P-small : {x : ℤ} → Within S x → (n : ℕ) → n ≤ 13 → Within 66355278 (P S x n)
@@ -46,6 +47,27 @@ pub floor-small : (z : ℤ) → natAbs z ≤ 3450474456000000000 → natAbs (flo
 unfolding floorDiv
 floor-small (pos a) h = omega arith
 floor-small (negsuc a) h = omega arith
+
+-- the sums of the even coefficients and of the odd ones
+pub even-sum-small : {c : List ℤ} → InRange c → Within 1000100000000000 (evenSum c)
+unfolding evenSum
+even-sum-small {c} r =
+    let f : ℕ → ℤ = λ (i : ℕ). coefficient c (2 * i) in
+    record { within = omega (arith, abs-+ (coefficient c 0) (sum 1 6 f), r .constant .within, sum-within 1 6 4000000000 f (λ i l h. r .others (2 * i) (omega arith) .within)) }
+
+pub odd-sum-small : {c : List ℤ} → InRange c → Within 100000000000 (oddSum c)
+unfolding oddSum
+odd-sum-small {c} r =
+    let f : ℕ → ℤ = λ (i : ℕ). coefficient c (2 * i + 1) in
+    record { within = omega (arith, abs-+ (coefficient c 1) (sum 1 6 f), r .others 1 (omega arith) .within, sum-within 1 6 4000000000 f (λ i l h. r .others (2 * i + 1) (omega arith) .within)) }
+
+-- n²·c(n), and the sum of them
+pub square-small : {c : List ℤ} → InRange c → (n : ℕ) → 1 ≤ n → n < 14 → natAbs (coefficient c n *ℤ pos (n * n)) ≤ 676000000000
+square-small {c} r n l h = abs-*-le (coefficient c n) (pos (n * n)) {m = 4000000000} {n = 169} (r .others n l .within) (mul-le-mul {n₁ = n} {m₁ = n} {n₂ = 13} {m₂ = 13} (omega arith) (omega arith))
+
+pub square-sum-small : {c : List ℤ} → InRange c → Within 10000000000000 (squareSum c)
+unfolding squareSum
+square-sum-small {c} r = record { within = omega (arith, sum-within 1 13 676000000000 (λ (n : ℕ). coefficient c n *ℤ pos (n * n)) (λ n l h. square-small r n l (omega arith))) }
 
 -- a segment that rises fast enough has weights so small that the value keeps its allowance
 module _ {c : List ℤ} (r : InRange c) where

@@ -1,11 +1,11 @@
--- `series::judging::limit_of` meets its contract. Assumes nothing.
+-- `chebyshev::inner::limit_of` meets its contract. Assumes nothing.
 use mathlib.Core.Path.{_≡_, refl}
 use Prim.Native.Nat.{ℕ, zero, suc}
 use native.Mathlib.Omega.{arith}
 use borrow.Author.Needs.{needs}
-use Rattle.series.specs.Acceptance.{limit}
-use Rattle.series.proofs.judging.limit_of.Statement.{statement}
-use Rattle.series.proofs.judging.limit_of.Tie as tie
+use Rattle.chebyshev.specs.Segment.{limit}
+use Rattle.chebyshev.proofs.inner.limit_of.Statement.{statement}
+use Rattle.chebyshev.proofs.inner.limit_of.Tie as tie
 
 later : (n : ℕ) → (n ≡ 0 → ⊥) → 4000000000 ≡ limit n
 later zero h = absurd (h refl)

@@ -1,0 +1,10 @@
+pub mod Sums
+pub mod Pell
+pub mod Forced
+pub mod Rounding
+pub mod Ends
+pub mod Bounds
+pub mod Nearness
+pub mod Steps
+pub mod Between
+pub mod Ranges
