@@ -95,12 +95,3 @@ firstBad-first number bad k (suc m) i e = go (firstBad-first number bad (suc k) 
 
 pub refused-exactly : (number : ℕ) (bad : ℕ → Bool) (k m i : ℕ) → firstBad number bad k m ≡ refused number i ↔ First bad k m i
 refused-exactly number bad k m i = (firstBad-first number bad k m i, first-firstBad number bad k m i)
-
--- A search over coefficients names the segment that has the bad one.
-abbrev pub perSegment : Verdict (Unit {0}) → Verdict (Unit {0})
-perSegment (answered a) = answered a
-perSegment (refused number i) = refused number (i / 14)
-
-pub perSegment-accepted : (v : Verdict (Unit {0})) → perSegment v ≡ accepted → v ≡ accepted
-perSegment-accepted (answered a) e = e
-perSegment-accepted (refused number i) e = let z : _≡_ {A = ℕ} 0 1 = cc in absurd (omega arith)
