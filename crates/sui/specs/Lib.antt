@@ -1,0 +1,3 @@
+pub mod Selected
+pub mod Sui
+pub mod theory

@@ -1,0 +1,3 @@
+pub mod Counting
+pub mod Turns
+pub mod Listed
