@@ -1,3 +1,5 @@
 pub mod Counting
 pub mod Turns
 pub mod Listed
+pub mod Solstices
+pub mod Found

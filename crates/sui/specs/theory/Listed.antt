@@ -75,10 +75,10 @@ module _ (s : Series) where
 
 module _ (s : Series) (e : Accepted s) where
   -- how many marks are listed, and the k-th
-  abbrev listed : ℕ
+  abbrev pub listed : ℕ
   listed = distanceFrom (firstReached s) (lastReached s)
 
-  abbrev nth : ℕ → Mark
+  abbrev pub nth : ℕ → Mark
   nth k = markOf s (firstReached s +ℤ pos 1 +ℤ pos k)
 
   pub listed-is : listedMarks s ≡ tabulate nth listed
