@@ -68,7 +68,7 @@ tabulate-part f all from zero h = refl
 tabulate-part {A} f all from (suc n) h =
     let d = f 0 in
     let here : getD (drop from (tabulate f all)) n d ≡ f (from + n) =
-        getD-drop from (tabulate f all) n d ∙ ap (λ (l : List A). getD l (from + n) d) (sym (append-nil (tabulate f all))) ∙ getD-tabulate f all (from + n) d [] (omega arith) in
+    getD-drop from (tabulate f all) n d ∙ ap (λ (l : List A). getD l (from + n) d) (sym (append-nil (tabulate f all))) ∙ getD-tabulate f all (from + n) d [] (omega arith) in
     take-suc (drop from (tabulate f all)) n d (rw (length-drop from (tabulate f all), length-tabulate f all) (omega arith)) ∙ rw (here, tabulate-part f all from n (omega arith))
 
 -- the places `place 0`, `place 1`, .. of the first n are those that pass, `count` of them

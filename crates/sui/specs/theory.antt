@@ -3,3 +3,4 @@ pub mod Turns
 pub mod Listed
 pub mod Solstices
 pub mod Found
+pub mod Searched

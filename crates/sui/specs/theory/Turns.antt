@@ -90,8 +90,8 @@ module _ (body : Body) (lowest : ℤ) where
       let whole : pos i ≡ pos (i / q) *ℤ pos q +ℤ pos (i % q) = ap pos (sym (div-add-mod' i q)) in
       let here : z ≡ d *ℤ pos q +ℤ pos (turnOf body) = (rw e at (floorDiv-floorMod z q (some-circle body))) in
       let rest : gap ≡ i % q =
-          floorMod-unique (pos (turnOf body) -ℤ (lowest +ℤ pos 1)) (pos (i / q) -ℤ d) q (i % q) (mod-lt i (some-circle body))
-          (⇑ ρ (search ring depth 9) (omega (arith, ⇓ ρ whole (search ring depth 9), ⇓ ρ here (search ring depth 9)))) in
+      floorMod-unique (pos (turnOf body) -ℤ (lowest +ℤ pos 1)) (pos (i / q) -ℤ d) q (i % q) (mod-lt i (some-circle body))
+      (⇑ ρ (search ring depth 9) (omega (arith, ⇓ ρ whole (search ring depth 9), ⇓ ρ here (search ring depth 9)))) in
       let σ = pos (i / q) ∷ pos q ∷ pos (i % q) ∷ pos i ∷ [] in
       omega (arith, rest, ⇓ σ whole (search ring depth 9))
 
