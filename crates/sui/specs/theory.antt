@@ -4,3 +4,5 @@ pub mod Listed
 pub mod Solstices
 pub mod Found
 pub mod Searched
+pub mod Eves
+pub mod Answered

@@ -16,7 +16,8 @@ use Rattle.whole.specs.Tabulated.{tabulate}
 use Rattle.refusals.specs.Verdict.{Verdict, answered, refused, _then_, answers-apart, answer-or-refusal}
 use Rattle.dates.specs.Calendar.{newYear}
 use Rattle.dates.specs.theory.Years.{in-order}
-use Rattle.series.specs.Series.{Series}
+use Rattle.series.specs.declared.Body.the-variants.{Sun}
+use Rattle.series.specs.Series.{Series, series}
 use Rattle.marks.specs.Listed.{firstReached, lastReached}
 use Rattle.inputs.specs.Inputs.{Inputs, sun, moon, dayOfMark}
 use Rattle.inputs.specs.Known.{Known, Ready}
@@ -26,7 +27,7 @@ use Rattle.months.specs.Limits.{yearInRange}
 use Rattle.sui.specs.Sui.{newMoonDays, solsticesIn, zhongqiDays, theOne, suiDays}
 use Rattle.sui.specs.theory.Counting.{Rises, by, by-small, by-later}
 use Rattle.sui.specs.theory.Listed.{turnIndexOf, turnsOf, turn-after, turn-by-last, turnDay, turnDays, turn-days-rise}
-use Rattle.sui.specs.theory.Solstices.{eve, solstice, solsticesBy, next-solstice, one-in-year, not-one-in-year, zhongqi-are, new-moons-are}
+use Rattle.sui.specs.theory.Solstices.{eve, solstice, solsticesBy, one-circle-on, one-in-year, not-one-in-year, zhongqi-are, new-moons-are}
 
 module _ (leap : List ℤ) (s : Series) (zone : ℤ) where
   -- how many turns have a day not after a day
@@ -98,21 +99,19 @@ module _ (i : Inputs) (zone : ℤ) (k : Known i) (year : ℤ) where
   unfolding suiDays firstSolsticeOf
   sui-days-are e = rw e (found (eqb (solsticesBy i zone k (eve year)) (b + 1)) (eqb (solsticesBy i zone k (eve (year +ℤ pos 1))) (b + 1 + 1)) refl refl)
 
--- what the index that is found tells: it and 24 more are listed
-module _ (leap : List ℤ) (s : Series) (zone year : ℤ) {j : ℤ} (found : firstSolsticeOf leap s zone year ≡ answered j) where
-  abbrev pub before : ℕ
+-- where there is one in each, two solstices are listed: the first and 24 marks more
+module _ (leap : List ℤ) (start : ℤ) (coefs : List ℤ) (zone year : ℤ) (one : oneInEach leap (series Sun start coefs) zone year ≡ true) where
+  abbrev s : Series
+  s = series Sun start coefs
+
+  abbrev before : ℕ
   before = turnsBy leap s zone (eve (year -ℤ pos 1))
 
-  is-found : (t : Bool) → oneInEach leap s zone year ≡ t → cond t (answered (turnIndexOf s before)) (refused 8 0) ≡ answered j → (turnIndexOf s before ≡ j) × (before + 1 < turnsOf s)
-  is-found false p e = answer-or-refusal (sym e)
-  is-found true p e =
-      let tests = both (eqb (turnsBy leap s zone (eve year)) (before + 1)) (eqb (turnsBy leap s zone (eve (year +ℤ pos 1))) (before + 1 + 1)) p in
+  pub two-listed : suc before < turnsOf s
+  two-listed =
+      let tests = both (eqb (turnsBy leap s zone (eve year)) (before + 1)) (eqb (turnsBy leap s zone (eve (year +ℤ pos 1))) (before + 1 + 1)) one in
       let two = eqb-true (turnsBy leap s zone (eve (year +ℤ pos 1))) (before + 1 + 1) (tests .1) in
-      (answers-apart e, omega (arith, by-small (turnDay leap s zone) (eve (year +ℤ pos 1)) (turnsOf s)))
+      omega (arith, by-small (turnDay leap s zone) (eve (year +ℤ pos 1)) (turnsOf s))
 
-  pub index-is : (turnIndexOf s before ≡ j) × (before + 1 < turnsOf s)
-  unfolding firstSolsticeOf
-  index-is = is-found (oneInEach leap s zone year) refl found
-
-  pub index-after : firstReached s <ℤ j
-  index-after = rw (← index-is .0) (turn-after s before)
+  pub to-the-second : (turnIndexOf s before +ℤ pos 24) ≤ℤ lastReached s
+  to-the-second = rw (← one-circle-on start coefs before) (turn-by-last s (suc before) two-listed)

@@ -21,6 +21,7 @@ use Rattle.refusals.specs.Verdict.{answered, refused}
 use Rattle.dates.specs.Calendar.{newYear, yearOf}
 use Rattle.dates.specs.theory.Years.{year-found, year-unique}
 use Rattle.series.specs.declared.Body.the-variants.{Sun, Moon}
+use Rattle.series.specs.Series.{series}
 use Rattle.marks.specs.Marks.{Mark}
 use Rattle.marks.specs.Listed.{listedMarks, firstReached, lastReached}
 use Rattle.inputs.specs.Inputs.{Inputs, sun, moon, dayOfMark}
@@ -68,6 +69,14 @@ pub none-of-them : (f : ℕ → Mark) (n : ℕ) → (n ≡ 1 → ⊥) → theOne
 none-of-them f zero other = unfold theOne in refl
 none-of-them f (suc zero) other = absurd (other refl)
 none-of-them f (suc (suc n)) other = two-or-more (tabulate f n) (f n) (f (suc n))
+
+-- ---- the next solstice is 24 marks on
+pub one-circle-on : (start : ℤ) (coefs : List ℤ) (n : ℕ) → turnIndexOf (series Sun start coefs) (suc n) ≡ turnIndexOf (series Sun start coefs) n +ℤ pos 24
+one-circle-on start coefs n =
+    let lowest = firstReached (series Sun start coefs) in
+    let ρ = lowest ∷ pos (gap Sun lowest) ∷ pos n ∷ [] in
+    let more : 24 * suc n ≡ 24 * n + 24 = omega arith in
+    rw more (⇑ ρ (search ring depth 9) refl)
 
 module _ (i : Inputs) (zone : ℤ) (k : Known i) where
   -- the days of the solstices, how many there are, and how many are not after a day
@@ -138,7 +147,7 @@ module _ (i : Inputs) (zone : ℤ) (k : Known i) where
     last = turnIndexOf (sun i) (suc n)
 
     pub next-solstice : last ≡ first +ℤ pos 24
-    next-solstice = let ρ = firstReached (sun i) ∷ pos (gap Sun (firstReached (sun i))) ∷ pos n ∷ [] in let more : 24 * suc n ≡ 24 * n + 24 = omega arith in rw more (⇑ ρ (search ring depth 9) refl)
+    next-solstice = one-circle-on (i .sunStart) (i .sunCoefs) n
 
     -- a solstice has an even index
     even : (half : ℤ) × (first ≡ pos 2 *ℤ half)
