@@ -30,35 +30,53 @@ isZhongqi m = eqb (floorMod (m .index) 2) 0
 unfoldable pub isNewMoon : Mark → Bool
 isNewMoon m = eqb (floorMod (m .index) 4) 0
 
-module _ (i : Inputs) (zone : ℤ) where
-  -- the day of a mark
-  abbrev pub dayIs : Mark → ℤ
-  dayIs m = dayIn (i .leap) (second m) zone .0
-
-  -- the days of all listed new moons
-  unfoldable pub newMoonDays : List ℤ
-  newMoonDays = map dayIs (select isNewMoon (listedMarks (moon i)))
-
-  -- the listed solstices with their day in a Gregorian year
-  unfoldable pub solsticesIn : ℤ → List Mark
-  solsticesIn year = select (λ m. isSolstice m && isExactly year (yearOf (dayIs m))) (listedMarks (sun i))
-
-  -- the days of the listed zhongqi from one solstice to another, both ends included
-  unfoldable pub zhongqiDays : Mark → Mark → List ℤ
-  zhongqiDays first last = map dayIs (select (λ m. isZhongqi m && inRange (first .index) (last .index) (m .index)) (listedMarks (sun i)))
-
 -- "the one listed solstice": 8 for "a solstice missing or doubled"
 unfoldable pub theOne : List Mark → Verdict Mark
 theOne [] = refused 8 0
 theOne (m ∷ []) = answered m
 theOne (m ∷ n ∷ marks) = refused 8 0
 
--- "Sui Y (1700 to 2500) uses the one listed solstice with its day in Gregorian year Y-1 and the one in Y"; then the month rule: 8 for a new moon that is
--- missing, 9
-unfoldable pub suiDays : Inputs → ℤ → ℤ → Verdict SuiDays
-suiDays i zone year =
-    refuseWhen (not (yearInRange year)) 8
-    before (theOne (solsticesIn i zone (year -ℤ pos 1)) then λ first. theOne (solsticesIn i zone year) then λ last. daysOf (newMoonDays i zone) (zhongqiDays i zone first last))
+-- ---- by the listed marks of Sun and Moon, whatever they are
+module _ (leap : List ℤ) (zone : ℤ) where
+  -- the day of a mark
+  abbrev pub markDay : Mark → ℤ
+  markDay m = dayIn leap (second m) zone .0
+
+  -- the days of the new moons among the Moon's marks
+  unfoldable pub newMoonDaysOf : List Mark → List ℤ
+  newMoonDaysOf moonMarks = map markDay (select isNewMoon moonMarks)
+
+  -- the solstices among the Sun's marks with their day in a Gregorian year
+  unfoldable pub solsticesOf : List Mark → ℤ → List Mark
+  solsticesOf sunMarks year = select (λ m. isSolstice m && isExactly year (yearOf (markDay m))) sunMarks
+
+  -- the days of the zhongqi among them from one solstice to another, both ends included
+  unfoldable pub zhongqiDaysOf : List Mark → Mark → Mark → List ℤ
+  zhongqiDaysOf sunMarks first last = map markDay (select (λ m. isZhongqi m && inRange (first .index) (last .index) (m .index)) sunMarks)
+
+  -- "Sui Y (1700 to 2500) uses the one listed solstice with its day in Gregorian year Y-1 and the one in Y"; then the month rule: 8 for a new moon that is
+  -- missing, 9
+  unfoldable pub daysByMarks : List Mark → List Mark → ℤ → Verdict SuiDays
+  daysByMarks sunMarks moonMarks year =
+      refuseWhen (not (yearInRange year)) 8
+      before (theOne (solsticesOf sunMarks (year -ℤ pos 1)) then λ first. theOne (solsticesOf sunMarks year) then λ last. daysOf (newMoonDaysOf moonMarks) (zhongqiDaysOf sunMarks first last))
+
+-- ---- by a leap table and two series
+module _ (i : Inputs) (zone : ℤ) where
+  abbrev pub dayIs : Mark → ℤ
+  dayIs = markDay (i .leap) zone
+
+  abbrev pub newMoonDays : List ℤ
+  newMoonDays = newMoonDaysOf (i .leap) zone (listedMarks (moon i))
+
+  abbrev pub solsticesIn : ℤ → List Mark
+  solsticesIn = solsticesOf (i .leap) zone (listedMarks (sun i))
+
+  abbrev pub zhongqiDays : Mark → Mark → List ℤ
+  zhongqiDays = zhongqiDaysOf (i .leap) zone (listedMarks (sun i))
+
+  unfoldable pub suiDays : ℤ → Verdict SuiDays
+  suiDays = daysByMarks (i .leap) zone (listedMarks (sun i)) (listedMarks (moon i))
 
 -- the whole: 1; Sun 2 to 5; Moon 2 to 5; 7; 8; 9; 10; 11
 unfoldable pub suiFor : Inputs → ℤ → ℤ → Verdict Sui

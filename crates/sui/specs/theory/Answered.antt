@@ -1,6 +1,6 @@
 -- What the answers of the parts tell: the verdict of the whole from those of the judge, the days and the month rule; what an answered `suiDays` is made of; and
 -- that every day is small. Assumes nothing.
-use mathlib.Core.Path.{_≡_, sym, ap, _∙_}
+use mathlib.Core.Path.{_≡_, refl, sym, ap, _∙_}
 use mathlib.Core.Bool.{Bool, true, false, not}
 use mathlib.Core.List.{List, [], _∷_}
 use Prim.Native.Nat.{ℕ, zero, suc, _<_}
@@ -13,7 +13,7 @@ use Rattle.whole.specs.Ranges.{Within, All}
 use Rattle.whole.specs.Tabulated.{tabulate}
 use Rattle.refusals.specs.declared.Refusal.{Refusal}
 use Rattle.refusals.specs.declared.Check.{Check}
-use Rattle.refusals.specs.Verdict.{Verdict, accepted, answered, refused, refusal, refuseWhen, _before_, _then_, test-answered, then-answered}
+use Rattle.refusals.specs.Verdict.{Verdict, accepted, answered, refused, refusal, refuseWhen, _before_, _then_, test-answered, then-answered, answer-or-refusal}
 use Rattle.dates.specs.theory.Sizes.{range-small}
 use Rattle.clock.specs.Theorems.{converted-day-has-date}
 use Rattle.series.specs.Series.{Series}
@@ -25,7 +25,7 @@ use Rattle.inputs.specs.theory.Converted.{mark-converts}
 use Rattle.months.specs.declared.SuiDays.{SuiDays}
 use Rattle.months.specs.Months.{daysOf, suiOf}
 use Rattle.months.specs.Limits.{yearInRange}
-use Rattle.sui.specs.Sui.{newMoonDays, solsticesIn, zhongqiDays, theOne, suiDays, suiFor}
+use Rattle.sui.specs.Sui.{newMoonDays, solsticesIn, zhongqiDays, theOne, suiDays, suiFor, daysByMarks}
 use Rattle.sui.specs.theory.Listed.{turnIndexOf, turnsOf, turn-after, turn-by-last, turnDay, turnDays}
 use Rattle.sui.specs.theory.Solstices.{new-moons-are}
 
@@ -49,7 +49,7 @@ pub record Found (i : Inputs) (zone year : ℤ) (days : SuiDays) : Type 0 where
   pub by-rule : daysOf (newMoonDays i zone) (zhongqiDays i zone first last) ≡ answered days
 
 pub days-found : (i : Inputs) (zone year : ℤ) {days : SuiDays} → suiDays i zone year ≡ answered days → Found i zone year days
-unfolding suiDays
+unfolding suiDays daysByMarks
 days-found i zone year {days} e =
     let rest = theOne (solsticesIn i zone (year -ℤ pos 1)) then λ first. theOne (solsticesIn i zone year) then λ last. daysOf (newMoonDays i zone) (zhongqiDays i zone first last) in
     let tested = test-answered (not (yearInRange year)) 8 rest days e in
@@ -87,3 +87,11 @@ pub new-moons-small : (i : Inputs) (zone : ℤ) → Known i → Within 1000 zone
 new-moons-small i zone k z =
     rw (new-moons-are i zone k)
     (all-wider (all-tabulate {m = 200000} (turnDay (i .leap) (moon i) zone) (turnsOf (moon i)) (turn-day-small (i .leap) (moon i) (k .moon-ready) zone z)) (omega arith))
+
+-- ---- what answers behind the judge tell: the inputs are accepted
+pub inputs-answered : (i : Inputs) {A : Type 0} (v : Verdict A) {a : A} → inputsJudged i before v ≡ answered a → InputsAccepted i × (v ≡ answered a)
+inputs-answered i {A} v {a} e = go (inputsJudged i) e
+  where
+    go : (u : Verdict (Unit {0})) → u before v ≡ answered a → (u ≡ accepted) × (v ≡ answered a)
+    go (answered tt) e = (refl, e)
+    go (refused number segment) e = answer-or-refusal (sym e)

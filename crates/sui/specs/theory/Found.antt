@@ -24,7 +24,7 @@ use Rattle.inputs.specs.Known.{Known, Ready}
 use Rattle.months.specs.declared.SuiDays.{SuiDays}
 use Rattle.months.specs.Months.{daysOf}
 use Rattle.months.specs.Limits.{yearInRange}
-use Rattle.sui.specs.Sui.{newMoonDays, solsticesIn, zhongqiDays, theOne, suiDays}
+use Rattle.sui.specs.Sui.{newMoonDays, solsticesIn, zhongqiDays, theOne, suiDays, daysByMarks}
 use Rattle.sui.specs.theory.Counting.{Rises, by, by-small, by-later}
 use Rattle.sui.specs.theory.Listed.{turnIndexOf, turnsOf, turn-after, turn-by-last, turnDay, turnDays, turn-days-rise}
 use Rattle.sui.specs.theory.Solstices.{eve, solstice, solsticesBy, one-circle-on, one-in-year, not-one-in-year, zhongqi-are, new-moons-are}
@@ -58,7 +58,7 @@ module _ (i : Inputs) (zone : ℤ) (k : Known i) (year : ℤ) where
   b = solsticesBy i zone k (eve (year -ℤ pos 1))
 
   -- year - 1 + 1 is the year
-  this : year -ℤ pos 1 +ℤ pos 1 ≡ year
+  pub this : year -ℤ pos 1 +ℤ pos 1 ≡ year
   this = ⇑ (year ∷ []) (search ring depth 9) refl
 
   eves-in-order : {y z : ℤ} → y ≤ℤ z → eve y ≤ℤ eve z
@@ -92,11 +92,11 @@ module _ (i : Inputs) (zone : ℤ) (k : Known i) (year : ℤ) where
       rw (one-in-year i zone k (year -ℤ pos 1) (omega arith), one-in-year i zone k year (omega arith), next, zhongqi-are i zone k b few, new-moons-are i zone k)
 
   pub out-of-range : yearInRange year ≡ false → refused 8 0 ≡ suiDays i zone year
-  unfolding suiDays
+  unfolding suiDays daysByMarks
   out-of-range e = rw e
 
   pub sui-days-are : yearInRange year ≡ true → suiDays i zone year ≡ firstSolsticeOf (i .leap) (sun i) zone year then (λ j. daysOf (turnDays (i .leap) (moon i) zone) (zhongqiFrom (i .leap) (sun i) zone j))
-  unfolding suiDays firstSolsticeOf
+  unfolding suiDays daysByMarks firstSolsticeOf
   sui-days-are e = rw e (found (eqb (solsticesBy i zone k (eve year)) (b + 1)) (eqb (solsticesBy i zone k (eve (year +ℤ pos 1))) (b + 1 + 1)) refl refl)
 
 -- where there is one in each, two solstices are listed: the first and 24 marks more

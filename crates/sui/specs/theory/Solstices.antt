@@ -17,7 +17,7 @@ use Rattle.whole.specs.Laws.{≤-trans}
 use Rattle.whole.specs.Solver.{⇑, ⇓, ring}
 use Rattle.whole.specs.Tabulated.{tabulate, length-tabulate}
 use Rattle.whole.specs.Tests.{inRange, isExactly, exactly-says, says-exactly, in-range-says, says-in-range}
-use Rattle.refusals.specs.Verdict.{answered, refused}
+use Rattle.refusals.specs.Verdict.{answered, refused, answers-apart, answer-or-refusal}
 use Rattle.dates.specs.Calendar.{newYear, yearOf}
 use Rattle.dates.specs.theory.Years.{year-found, year-unique}
 use Rattle.series.specs.declared.Body.the-variants.{Sun, Moon}
@@ -27,7 +27,7 @@ use Rattle.marks.specs.Listed.{listedMarks, firstReached, lastReached}
 use Rattle.inputs.specs.Inputs.{Inputs, sun, moon, dayOfMark}
 use Rattle.inputs.specs.Known.{Known}
 use Rattle.sui.specs.Selected.{select, select-both, map-tabulate, tabulate-same, Passing, selected}
-use Rattle.sui.specs.Sui.{isSolstice, isZhongqi, isNewMoon, dayIs, newMoonDays, solsticesIn, zhongqiDays, theOne}
+use Rattle.sui.specs.Sui.{isSolstice, isZhongqi, isNewMoon, dayIs, newMoonDays, solsticesIn, zhongqiDays, theOne, solsticesOf, zhongqiDaysOf, newMoonDaysOf}
 use Rattle.sui.specs.theory.Counting.{Rises, by, by-small, split, is-by, is-after}
 use Rattle.sui.specs.theory.Turns.{isTurn, gap, at-place, is-turn}
 use Rattle.sui.specs.theory.Listed.{markOf, firstTurnOf, turnIndexOf, turnsOf, placeIn, turn-by-last, listed, nth, listed-is, place-listed, turns-listed, turnDay, turnDays, turn-days-rise}
@@ -78,6 +78,13 @@ one-circle-on start coefs n =
     let more : 24 * suc n ≡ 24 * n + 24 = omega arith in
     rw more (⇑ ρ (search ring depth 9) refl)
 
+-- and where there is one, it is the only one
+one-means : (f : ℕ → Mark) (n : ℕ) {m : Mark} → theOne (tabulate f n) ≡ answered m → (n ≡ 1) × (f 0 ≡ m)
+unfolding theOne
+one-means f zero e = answer-or-refusal (sym e)
+one-means f (suc zero) e = (refl, answers-apart e)
+one-means f (suc (suc n)) e = answer-or-refusal (sym e ∙ two-or-more (tabulate f n) (f n) (f (suc n)))
+
 module _ (i : Inputs) (zone : ℤ) (k : Known i) where
   -- the days of the solstices, how many there are, and how many are not after a day
   abbrev pub solsticeDay : ℕ → ℤ
@@ -125,7 +132,7 @@ module _ (i : Inputs) (zone : ℤ) (k : Known i) where
             (n - before, omega arith, omega arith)
 
     pub solstices-are : solsticesIn i zone year ≡ tabulate (λ n. solstice (before + n)) (upTo - before)
-    unfolding solsticesIn isTurn isSolstice
+    unfolding solsticesOf isTurn isSolstice
     solstices-are =
         select-both isSolstice ofYear (listedMarks (sun i)) ∙ ap (select ofYear) (turns-listed (sun i) (k .sun-ready .is-accepted))
         ∙ selected ofYear solstice (λ n. before + n) (λ a b h. omega arith) solstices (upTo - before) of-year
@@ -134,6 +141,12 @@ module _ (i : Inputs) (zone : ℤ) (k : Known i) where
     one-in-year e =
         let first : before + 0 ≡ before = omega arith in
         rw solstices-are (one-of (λ n. solstice (before + n)) (upTo - before) (omega arith) ∙ ap (λ (n : ℕ). answered (solstice n)) first)
+
+    pub in-year-means : {m : Mark} → theOne (solsticesIn i zone year) ≡ answered m → (upTo ≡ before + 1) × (solstice before ≡ m)
+    in-year-means {m} e =
+        let first : before + 0 ≡ before = omega arith in
+        let means = one-means (λ n. solstice (before + n)) (upTo - before) (rw solstices-are at e) in
+        (omega (arith, means .0), ap solstice (sym first) ∙ means .1)
 
     pub not-one-in-year : before ≤ upTo → (upTo ≡ before + 1 → ⊥) → theOne (solsticesIn i zone year) ≡ refused 8 0
     not-one-in-year h other = rw solstices-are (none-of-them (λ n. solstice (before + n)) (upTo - before) (λ e. other (omega arith)))
@@ -212,7 +225,7 @@ module _ (i : Inputs) (zone : ℤ) (k : Known i) where
 
     -- they are the thirteen marks of every second index
     pub zhongqi-are : zhongqiDays i zone (solstice n) (solstice (suc n)) ≡ tabulate (λ m. dayOfMark (i .leap) (sun i) zone (zhongqi m) .0) 13
-    unfolding zhongqiDays dayOfMark
+    unfolding zhongqiDaysOf dayOfMark
     zhongqi-are =
         ap (λ (l : List Mark). map (dayIs i zone) (select between l)) (listed-is (sun i) (k .sun-ready .is-accepted))
         ∙ ap (map (dayIs i zone)) (selected between (nth (sun i) (k .sun-ready .is-accepted)) place (λ a b l. omega arith) (listed (sun i) (k .sun-ready .is-accepted)) 13 thirteen-pass)
@@ -222,5 +235,5 @@ module _ (i : Inputs) (zone : ℤ) (k : Known i) where
 -- ---- new moons
 module _ (i : Inputs) (zone : ℤ) (k : Known i) where
   pub new-moons-are : newMoonDays i zone ≡ turnDays (i .leap) (moon i) zone
-  unfolding newMoonDays isNewMoon isTurn dayOfMark
+  unfolding newMoonDaysOf isNewMoon isTurn dayOfMark
   new-moons-are = ap (map (dayIs i zone)) (turns-listed (moon i) (k .moon-ready .is-accepted)) ∙ map-tabulate (dayIs i zone) (λ n. markOf (moon i) (turnIndexOf (moon i) n)) (turnsOf (moon i))
