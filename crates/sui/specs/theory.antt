@@ -6,3 +6,5 @@ pub mod Found
 pub mod Searched
 pub mod Eves
 pub mod Answered
+pub mod Speed
+pub mod Apart

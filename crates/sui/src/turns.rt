@@ -19,7 +19,7 @@ ghost use Rattle.series.specs.Series.{series};
 ghost use Rattle.series.specs.Acceptance.{Accepted};
 ghost use Rattle.inputs.specs.Inputs.{dayOfMark};
 ghost use Rattle.sui.specs.theory.Turns.{circleOf, turnOf, firstTurn, turnsUpTo};
-ghost use Rattle.sui.specs.theory.Listed.{turnIndexOf, turnsOf};
+ghost use Rattle.sui.specs.theory.Listed.{turnIndexOf};
 ghost use Rattle.sui.specs.theory.Found.{turnsBy};
 ghost use Rattle.sui.specs.theory.Searched.{turnsIn, Searched};
 

@@ -1,6 +1,5 @@
 -- `sui::sui` meets its contract. In the needs, `start` is the function's entry. Assumes nothing.
-use mathlib.Core.Path.{_≡_, sym, ap, _∙_}
-use native.Mathlib.Omega.{arith}
+use mathlib.Core.Path.{_≡_, ap, _∙_}
 use borrow.Author.Needs.{needs}
 use mir.Facts.{toZ-ofZ}
 use Rattle.whole.specs.Ranges.{Within, within, bounds}

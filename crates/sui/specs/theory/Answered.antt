@@ -1,7 +1,7 @@
 -- What the answers of the parts tell: the verdict of the whole from those of the judge, the days and the month rule; what an answered `suiDays` is made of; and
 -- that every day is small. Assumes nothing.
-use mathlib.Core.Path.{_≡_, refl, sym, ap, _∙_}
-use mathlib.Core.Bool.{Bool, true, false, not}
+use mathlib.Core.Path.{_≡_, refl, sym}
+use mathlib.Core.Bool.{true, not}
 use mathlib.Core.List.{List, [], _∷_}
 use Prim.Native.Nat.{ℕ, zero, suc, _<_}
 use native.Mathlib.Omega.{arith}
@@ -12,21 +12,20 @@ use Rattle.whole.specs.Bounded.{zero-within, all-wider, all-append, all-zeros}
 use Rattle.whole.specs.Ranges.{Within, All}
 use Rattle.whole.specs.Tabulated.{tabulate}
 use Rattle.refusals.specs.declared.Refusal.{Refusal}
-use Rattle.refusals.specs.declared.Check.{Check}
-use Rattle.refusals.specs.Verdict.{Verdict, accepted, answered, refused, refusal, refuseWhen, _before_, _then_, test-answered, then-answered, answer-or-refusal}
+use Rattle.refusals.specs.Verdict.{Verdict, accepted, answered, refused, refusal, _before_, _then_, test-answered, then-answered, answer-or-refusal}
 use Rattle.dates.specs.theory.Sizes.{range-small}
 use Rattle.clock.specs.Theorems.{converted-day-has-date}
 use Rattle.series.specs.Series.{Series}
 use Rattle.marks.specs.Marks.{Mark}
 use Rattle.marks.specs.Listed.{secondOfMark}
-use Rattle.inputs.specs.Inputs.{Inputs, sun, moon, inputsJudged, InputsAccepted, dayOfMark}
+use Rattle.inputs.specs.Inputs.{Inputs, moon, inputsJudged, InputsAccepted, dayOfMark}
 use Rattle.inputs.specs.Known.{Known, Ready}
 use Rattle.inputs.specs.theory.Converted.{mark-converts}
 use Rattle.months.specs.declared.SuiDays.{SuiDays}
 use Rattle.months.specs.Months.{daysOf, suiOf}
 use Rattle.months.specs.Limits.{yearInRange}
 use Rattle.sui.specs.Sui.{newMoonDays, solsticesIn, zhongqiDays, theOne, suiDays, suiFor, daysByMarks}
-use Rattle.sui.specs.theory.Listed.{turnIndexOf, turnsOf, turn-after, turn-by-last, turnDay, turnDays}
+use Rattle.sui.specs.theory.Listed.{turnIndexOf, turnsOf, turn-after, turn-by-last, turnDay}
 use Rattle.sui.specs.theory.Solstices.{new-moons-are}
 
 -- ---- the whole from its parts

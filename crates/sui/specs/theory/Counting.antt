@@ -1,20 +1,17 @@
 -- Days that rise, given as the first values of a function: those not after a day are the first ones, as many as `notAfter` counts. Days may be equal here: that
 -- two marks of a series have different days is not known. Assumes nothing.
-use mathlib.Core.Path.{_≡_, refl, sym, ap, _∙_}
+use mathlib.Core.Path.{_≡_, refl, ap, _∙_}
 use mathlib.Core.Bool.{Bool, true, false}
 use mathlib.Core.List.{List, [], _∷_, _++_}
 use Prim.Native.Nat.{ℕ, zero, suc, _+_, _-_, _≤_, _<_}
 use native.Mathlib.Omega.{arith}
 use native.Mathlib.Decide.{decLt}
-use borrow.Author.Tests.{lt-ltb, le-ltb}
-use lib.Dec.{ltb}
-use lib.IntN.{ℤ, pos}
-use lib.ListN.{length}
+use lib.IntN.{ℤ}
 use lib.Signed.{leZ, _≤ℤ_, _<ℤ_}
 use Rattle.whole.specs.Counted.{one, countOf}
 use Rattle.whole.specs.Laws.{≤-trans}
 use Rattle.whole.specs.Distance.{clash}
-use Rattle.whole.specs.Solver.{le-yes, le-no, yes-le, no-le}
+use Rattle.whole.specs.Solver.{le-yes, le-no}
 use Rattle.whole.specs.Tabulated.{tabulate, length-tabulate}
 use Rattle.months.specs.Months.{notAfter}
 use Rattle.months.specs.theory.Listed.{notAfter-small}

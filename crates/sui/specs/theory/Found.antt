@@ -1,6 +1,6 @@
 -- The days of a sui as the program finds them: by counting solstices up to three eves it gets the index of the first solstice, from that the thirteen zhongqi, and
 -- with their days it counts new moons. That is what the definition says. Assumes nothing.
-use mathlib.Core.Path.{_≡_, refl, sym, ap, _∙_}
+use mathlib.Core.Path.{_≡_, refl, ap}
 use mathlib.Core.Bool.{Bool, true, false, cond, _&&_}
 use mathlib.Core.List.{List, [], _∷_}
 use Prim.Native.Nat.{ℕ, suc, _+_, _*_, _≤_, _<_}
@@ -8,25 +8,24 @@ use native.Mathlib.Omega.{arith}
 use borrow.Author.Tests.{eqb-true, eqb-false}
 use lib.Dec.{eqb}
 use lib.IntN.{ℤ, pos, _+ℤ_, _-ℤ_}
-use lib.Signed.{_≤ℤ_, _<ℤ_}
-use Rattle.whole.specs.Booleans.{both, not-both}
-use Rattle.whole.specs.Laws.{≤-trans, ≤-of-≡}
+use lib.Signed.{_≤ℤ_}
+use Rattle.whole.specs.Booleans.{both}
 use Rattle.whole.specs.Solver.{⇑, ⇓, ring}
 use Rattle.whole.specs.Tabulated.{tabulate}
-use Rattle.refusals.specs.Verdict.{Verdict, answered, refused, _then_, answers-apart, answer-or-refusal}
+use Rattle.refusals.specs.Verdict.{Verdict, answered, refused, _then_}
 use Rattle.dates.specs.Calendar.{newYear}
 use Rattle.dates.specs.theory.Years.{in-order}
 use Rattle.series.specs.declared.Body.the-variants.{Sun}
 use Rattle.series.specs.Series.{Series, series}
-use Rattle.marks.specs.Listed.{firstReached, lastReached}
+use Rattle.marks.specs.Listed.{lastReached}
 use Rattle.inputs.specs.Inputs.{Inputs, sun, moon, dayOfMark}
-use Rattle.inputs.specs.Known.{Known, Ready}
+use Rattle.inputs.specs.Known.{Known}
 use Rattle.months.specs.declared.SuiDays.{SuiDays}
 use Rattle.months.specs.Months.{daysOf}
 use Rattle.months.specs.Limits.{yearInRange}
 use Rattle.sui.specs.Sui.{newMoonDays, solsticesIn, zhongqiDays, theOne, suiDays, daysByMarks}
-use Rattle.sui.specs.theory.Counting.{Rises, by, by-small, by-later}
-use Rattle.sui.specs.theory.Listed.{turnIndexOf, turnsOf, turn-after, turn-by-last, turnDay, turnDays, turn-days-rise}
+use Rattle.sui.specs.theory.Counting.{by, by-small, by-later}
+use Rattle.sui.specs.theory.Listed.{turnIndexOf, turnsOf, turn-by-last, turnDay, turnDays, turn-days-rise}
 use Rattle.sui.specs.theory.Solstices.{eve, solstice, solsticesBy, one-circle-on, one-in-year, not-one-in-year, zhongqi-are, new-moons-are}
 
 module _ (leap : List ℤ) (s : Series) (zone : ℤ) where

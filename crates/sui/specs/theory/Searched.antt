@@ -1,12 +1,12 @@
 -- What the search for turns asks of its arguments, and what is known then: which turns a series has, that each can be located, and how large the numbers are.
 -- Assumes nothing.
-use mathlib.Core.Path.{_≡_, refl, sym, ap, _∙_}
+use mathlib.Core.Path.{_≡_, ap}
 use mathlib.Core.Bool.{true, false}
-use mathlib.Core.List.{List, [], _∷_}
-use Prim.Native.Nat.{ℕ, suc, _+_, _*_, _^_, _≤_, _<_}
+use mathlib.Core.List.{List}
+use Prim.Native.Nat.{ℕ, _+_, _*_, _^_, _≤_, _<_}
 use native.Mathlib.Omega.{arith}
-use lib.IntN.{ℤ, pos, natAbs, _+ℤ_, _-ℤ_}
-use lib.Signed.{ltZ, _≤ℤ_, _<ℤ_}
+use lib.IntN.{ℤ, pos, _+ℤ_, _-ℤ_}
+use lib.Signed.{ltZ}
 use mir.Syntax.{w64}
 use mir.Val.{SFits}
 use Rattle.whole.specs.Distance.{between-fits}
@@ -23,7 +23,7 @@ use Rattle.marks.specs.Listed.{firstReached, lastReached}
 use Rattle.marks.specs.theory.Nth.{marks-few, marks-length}
 use Rattle.inputs.specs.Known.{Ready}
 use Rattle.sui.specs.declared.turns.TurnList.{TurnList}
-use Rattle.sui.specs.theory.Turns.{circleOf, small-circle, some-circle, turnOf, turn-within, gap, firstTurn, at-place}
+use Rattle.sui.specs.theory.Turns.{circleOf, small-circle, some-circle, turnOf, at-place}
 use Rattle.sui.specs.theory.Listed.{firstTurnOf, turnIndexOf, turnsOf, placeIn, turn-after, turn-by-last, place-listed, turnDay, turn-days-rise, turns-few}
 use Rattle.sui.specs.theory.Counting.{Rises, by-small as few, is-by, is-after}
 use Rattle.sui.specs.theory.Found.{turnsBy}

@@ -1,36 +1,35 @@
 -- The solstices of a year and the zhongqi between two of them, by index: how many solstices fall before each first of January tells the one of a year, and the
 -- zhongqi from one solstice to the next are every second mark, 13 of them. Assumes nothing.
 use mathlib.Core.Path.{_≡_, refl, sym, ap, _∙_}
-use mathlib.Core.Bool.{Bool, true, false, _&&_}
+use mathlib.Core.Bool.{Bool, true, _&&_}
 use mathlib.Core.List.{List, [], _∷_, _++_, map}
 use Prim.Native.Nat.{ℕ, zero, suc, _+_, _*_, _-_, _/_, _≤_, _<_}
 use native.Mathlib.Omega.{arith}
 use borrow.Author.Tests.{eqb-true, eq-eqb}
 use lib.Dec.{eqb}
 use lib.IntN.{ℤ, pos, _+ℤ_, _-ℤ_, _*ℤ_}
-use lib.ListN.{length}
 use lib.Signed.{_≤ℤ_, _<ℤ_}
 use Rattle.whole.specs.Booleans.{both, both-hold}
 use Rattle.whole.specs.Floor.{floorMod, floorDiv, floorDiv-floorMod, floorMod-unique}
-use Rattle.whole.specs.Parts.{_⩽_, _≺_}
+use Rattle.whole.specs.Parts.{_⩽_}
 use Rattle.whole.specs.Laws.{≤-trans}
 use Rattle.whole.specs.Solver.{⇑, ⇓, ring}
-use Rattle.whole.specs.Tabulated.{tabulate, length-tabulate}
+use Rattle.whole.specs.Tabulated.{tabulate}
 use Rattle.whole.specs.Tests.{inRange, isExactly, exactly-says, says-exactly, in-range-says, says-in-range}
 use Rattle.refusals.specs.Verdict.{answered, refused, answers-apart, answer-or-refusal}
 use Rattle.dates.specs.Calendar.{newYear, yearOf}
 use Rattle.dates.specs.theory.Years.{year-found, year-unique}
-use Rattle.series.specs.declared.Body.the-variants.{Sun, Moon}
+use Rattle.series.specs.declared.Body.the-variants.{Sun}
 use Rattle.series.specs.Series.{series}
 use Rattle.marks.specs.Marks.{Mark}
-use Rattle.marks.specs.Listed.{listedMarks, firstReached, lastReached}
+use Rattle.marks.specs.Listed.{listedMarks, firstReached}
 use Rattle.inputs.specs.Inputs.{Inputs, sun, moon, dayOfMark}
 use Rattle.inputs.specs.Known.{Known}
 use Rattle.sui.specs.Selected.{select, select-both, map-tabulate, tabulate-same, Passing, selected}
 use Rattle.sui.specs.Sui.{isSolstice, isZhongqi, isNewMoon, dayIs, newMoonDays, solsticesIn, zhongqiDays, theOne, solsticesOf, zhongqiDaysOf, newMoonDaysOf}
 use Rattle.sui.specs.theory.Counting.{Rises, by, by-small, split, is-by, is-after}
 use Rattle.sui.specs.theory.Turns.{isTurn, gap, at-place, is-turn}
-use Rattle.sui.specs.theory.Listed.{markOf, firstTurnOf, turnIndexOf, turnsOf, placeIn, turn-by-last, listed, nth, listed-is, place-listed, turns-listed, turnDay, turnDays, turn-days-rise}
+use Rattle.sui.specs.theory.Listed.{markOf, turnIndexOf, turnsOf, placeIn, turn-by-last, listed, nth, listed-is, place-listed, turns-listed, turnDay, turnDays, turn-days-rise}
 
 -- ---- the day before the first of January
 abbrev pub eve : ℤ → ℤ

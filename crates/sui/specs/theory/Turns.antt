@@ -1,20 +1,17 @@
 -- The marks that come once a circle, by their indices: of the Sun the winter solstices, of the Moon the new moons. Both are called turns here, so that they are
 -- looked for by one function. The k-th turn of a series has the index of the first and k circles. Assumes nothing.
-use mathlib.Core.Path.{_≡_, refl, sym, ap, _∙_}
+use mathlib.Core.Path.{_≡_, refl, sym, ap}
 use mathlib.Core.Bool.{Bool, true, false, cond}
-use mathlib.Core.List.{List, [], _∷_}
-use mathlib.Core.Logic.{_⊎_, inl, inr, ⊎-elim}
-use Prim.Native.Nat.{ℕ, suc, _+_, _*_, _/_, _%_, _≤_, _<_}
+use mathlib.Core.List.{[], _∷_}
+use Prim.Native.Nat.{ℕ, _+_, _*_, _/_, _%_, _≤_, _<_}
 use native.Mathlib.Omega.{arith}
 use native.Mathlib.Nat.{div-add-mod', mod-lt, mul-comm, le-div-iff-mul-le}
-use borrow.Author.Tests.{eqb-true, eq-eqb}
 use lib.Dec.{eqb, lit<}
 use lib.IntN.{ℤ, pos, _+ℤ_, _-ℤ_, _*ℤ_}
-use lib.Signed.{ltZ, _≤ℤ_, _<ℤ_}
-use Rattle.whole.specs.Floor.{floorMod, floorDiv, floorMod-lt, floorDiv-floorMod, floorMod-unique}
-use Rattle.whole.specs.Distance.{distanceFrom, distance-is, distance-of, lies-after, clash}
-use Rattle.whole.specs.Laws.{≤-trans, <→≤}
-use Rattle.whole.specs.Solver.{⇑, ⇓, ring, lt-yes, lt-no, no-lt}
+use lib.Signed.{ltZ, _≤ℤ_}
+use Rattle.whole.specs.Floor.{floorMod, floorDiv, floorDiv-floorMod, floorMod-unique}
+use Rattle.whole.specs.Distance.{distanceFrom, distance-is}
+use Rattle.whole.specs.Solver.{⇑, ⇓, ring, lt-yes, lt-no}
 use Rattle.series.specs.declared.Body.{Body}
 use Rattle.series.specs.declared.Body.the-variants.{Sun, Moon}
 use Rattle.series.specs.Bodies.{numbers}

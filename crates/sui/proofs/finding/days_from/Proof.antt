@@ -15,7 +15,7 @@ use Rattle.whole.specs.Tabulated.{tabulate, length-tabulate}
 use Rattle.refusals.specs.declared.Check.the-variants.{Accepted}
 use Rattle.series.specs.declared.Body.the-variants.{Moon}
 use Rattle.series.specs.Series.{Series, series}
-use Rattle.months.specs.Months.{byFirst, bySecond, moonMissing, monthCount, twelveOrThirteen, daysFound, daysOf}
+use Rattle.months.specs.Months.{byFirst, bySecond, moonMissing, monthCount, twelveOrThirteen, daysFound}
 use Rattle.months.specs.Answers.{daysAnswer}
 use Rattle.months.specs.theory.Days.{days-missing, days-other-count, days-are-found, some-listed}
 use Rattle.months.specs.theory.Listed.{at-most-thirteen}

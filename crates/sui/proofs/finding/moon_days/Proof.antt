@@ -13,7 +13,7 @@ use Rattle.whole.specs.Ranges.{back}
 use Rattle.whole.specs.Tabulated.{tabulate, tabulate-turn, drop-replicate}
 use Rattle.times.specs.declared.Day.{Day}
 use Rattle.series.specs.declared.Body.the-variants.{Moon}
-use Rattle.series.specs.Series.{Series, series}
+use Rattle.series.specs.Series.{series}
 use Rattle.sui.specs.theory.Listed.{turnDay}
 use Rattle.sui.specs.theory.Searched.{count-small}
 use Rattle.sui.proofs.finding.moon_days.Statement.{statement}

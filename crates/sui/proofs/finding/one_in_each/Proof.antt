@@ -1,6 +1,5 @@
 -- `sui::finding::one_in_each` meets its contract. In the needs, `start` is the function's entry. Assumes nothing.
-use mathlib.Core.Path.{_≡_, sym, ap, _∙_}
-use mathlib.Core.Bool.{false}
+use mathlib.Core.Path.{_≡_, sym, _∙_}
 use Prim.Native.Nat.{ℕ, _+_}
 use native.Mathlib.Omega.{arith}
 use borrow.Author.Needs.{needs}
@@ -11,10 +10,9 @@ use mir.Syntax.{w64}
 use mir.Val.{ofZ, toZ}
 use mir.Facts.{toZ-ofZ}
 use Rattle.whole.specs.Booleans.{first-fails}
-use Rattle.whole.specs.Ranges.{Within, fits, within, bounds, back}
+use Rattle.whole.specs.Ranges.{fits, within, bounds, back}
 use Rattle.series.specs.declared.Body.the-variants.{Sun}
 use Rattle.series.specs.Series.{series}
-use Rattle.times.specs.declared.Day.{Day}
 use Rattle.sui.specs.theory.Solstices.{eve}
 use Rattle.sui.specs.theory.Found.{turnsBy}
 use Rattle.sui.specs.theory.Searched.{by-small, count-small}

@@ -1,14 +1,14 @@
 -- `sui::inner::days_in` meets its contract. In the needs, `start` is the function's entry. Assumes nothing.
 use mathlib.Core.Path.{_≡_, sym, ap, ap₂, _∙_}
 use mathlib.Core.List.{List}
-use mathlib.Core.Bool.{true, false}
+use mathlib.Core.Bool.{true}
 use Prim.Native.Nat.{ℕ, _*_}
 use native.Mathlib.Omega.{arith}
 use borrow.Author.Needs.{needs}
 use borrow.Author.Tests.{not-true, not-false}
 use lib.IntN.{ℤ, pos, _+ℤ_, _-ℤ_}
 use mir.Syntax.{w64}
-use mir.Val.{SFits, ofZ, toZ}
+use mir.Val.{ofZ, toZ}
 use mir.Facts.{toZ-ofZ}
 use Rattle.whole.specs.Ranges.{Within, fits, within, bounds, fits-of, back}
 use Rattle.series.specs.Series.{Series}
@@ -17,10 +17,9 @@ use Rattle.months.specs.Limits.{yearInRange}
 use Rattle.months.specs.Months.{daysOf}
 use Rattle.months.specs.Answers.{daysAnswer}
 use Rattle.months.specs.theory.Kept.{year-small}
-use Rattle.refusals.specs.Verdict.{answered, refused, answered-then, refused-then}
-use Rattle.sui.specs.Sui.{suiDays}
+use Rattle.refusals.specs.Verdict.{answered-then, refused-then}
 use Rattle.sui.specs.declared.turns.TurnList.{TurnList}
-use Rattle.sui.specs.theory.Listed.{turnIndexOf, turnsOf, firstTurnOf, turn-after, turnDays}
+use Rattle.sui.specs.theory.Listed.{turnIndexOf, turn-after, turnDays}
 use Rattle.sui.specs.theory.Solstices.{eve}
 use Rattle.sui.specs.theory.Found.{turnsBy, oneInEach, zhongqiFrom, found-when, missing-when, out-of-range, sui-days-are, two-listed, to-the-second}
 use Rattle.sui.specs.theory.Searched.{Searched, turn-fits, circles-small}

@@ -1,15 +1,12 @@
 -- `sui::turns::day_of_turn` meets its contract. In the needs, `start` is the function's entry. Assumes nothing.
-use mathlib.Core.Path.{_≡_, sym, ap, _∙_}
-use Prim.Native.Nat.{_*_, _<_}
-use lib.IntN.{ℤ, pos, _+ℤ_}
+use mathlib.Core.Path.{_≡_, ap, _∙_}
+use Prim.Native.Nat.{_<_}
 use mir.Syntax.{w64}
 use mir.Val.{SFits, ofZ, toZ}
 use mir.Facts.{toZ-ofZ}
 use Rattle.whole.specs.Ranges.{fits-of, back}
 use Rattle.series.specs.Series.{Series, series}
-use Rattle.inputs.specs.Inputs.{dayOfMark}
 use Rattle.sui.specs.declared.turns.TurnList.{TurnList}
-use Rattle.sui.specs.theory.Turns.{circleOf}
 use Rattle.sui.specs.theory.Listed.{firstTurnOf, turnIndexOf, turnsOf, turn-after, turn-by-last}
 use Rattle.sui.specs.theory.Searched.{turn-fits, circles-small}
 use Rattle.sui.proofs.turns.day_of_turn.Statement.{statement}

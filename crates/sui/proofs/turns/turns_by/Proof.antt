@@ -9,11 +9,11 @@ use lib.Signed.{ltZ}
 use mir.Syntax.{w64}
 use mir.Val.{toZ}
 use mir.Facts.{toZ-ofZ}
-use Rattle.series.specs.Series.{Series, series}
+use Rattle.series.specs.Series.{series}
 use Rattle.times.specs.declared.Day.{Day}
 use Rattle.sui.specs.theory.Listed.{turnDay}
 use Rattle.sui.specs.theory.Found.{turnsBy}
-use Rattle.sui.specs.theory.Searched.{Searched, by-small, count-small, turn-counts, turn-is-behind}
+use Rattle.sui.specs.theory.Searched.{by-small, count-small, turn-counts, turn-is-behind}
 use Rattle.sui.proofs.turns.turns_by.Statement.{statement}
 use Rattle.sui.proofs.turns.turns_by.Tie as tie
 use Rattle.sui.proofs.turns.turns_by.Reads as reads

@@ -1,15 +1,13 @@
 -- `sui::turns::turns_of` meets its contract. Assumes nothing.
 use mathlib.Core.Path.{_≡_, _∙_}
-use Prim.Native.Nat.{_<_}
 use native.Mathlib.Omega.{arith}
-use lib.IntN.{ℤ, pos}
 use borrow.Author.Needs.{needs}
 use mir.Syntax.{w64}
 use mir.Val.{ofZ, toZ}
 use Rattle.whole.specs.Ranges.{back}
 use Rattle.series.specs.Series.{Series, series}
 use Rattle.marks.specs.Listed.{firstReached, lastReached}
-use Rattle.sui.specs.theory.Listed.{firstTurnOf, turnsOf}
+use Rattle.sui.specs.theory.Listed.{firstTurnOf}
 use Rattle.sui.specs.theory.Searched.{first-small, last-small, first-turn-small}
 use Rattle.sui.proofs.turns.turns_of.Statement.{statement}
 use Rattle.sui.proofs.turns.turns_of.Tie as tie

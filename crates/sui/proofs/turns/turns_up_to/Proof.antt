@@ -1,16 +1,16 @@
 -- `sui::turns::turns_up_to` meets its contract. Assumes nothing.
-use mathlib.Core.Path.{_≡_, sym, ap, _∙_}
-use Prim.Native.Nat.{_^_, _/_, _<_}
+use mathlib.Core.Path.{_≡_}
+use Prim.Native.Nat.{_<_}
 use native.Mathlib.Omega.{arith}
 use native.Mathlib.Nat.{div-le-self}
-use lib.IntN.{ℤ, pos}
-use lib.Signed.{ltZ, _≤ℤ_}
+use lib.IntN.{ℤ}
+use lib.Signed.{_≤ℤ_}
 use borrow.Author.Needs.{needs}
 use mir.Facts.{toZ-ofZ}
 use Rattle.whole.specs.Distance.{distanceFrom}
 use Rattle.whole.specs.Laws.{abs--}
 use Rattle.whole.specs.Solver.{lt-no}
-use Rattle.sui.specs.theory.Turns.{circleOf, some-circle}
+use Rattle.sui.specs.theory.Turns.{some-circle}
 use Rattle.sui.proofs.turns.turns_up_to.Statement.{statement}
 use Rattle.sui.proofs.turns.turns_up_to.Tie as tie
 use Rattle.sui.proofs.turns.turns_up_to.Reads as reads
