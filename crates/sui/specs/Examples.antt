@@ -27,7 +27,7 @@ use Rattle.months.specs.declared.SuiDays.{SuiDays}
 use Rattle.months.specs.Months.{notAfter, byFirst, bySecond, isMissing, moonMissing, monthCount, twelveOrThirteen, daysFound, daysOf}
 use Rattle.months.specs.Limits.{yearInRange}
 use Rattle.sui.specs.Selected.{select}
-use Rattle.sui.specs.Sui.{isSolstice, isZhongqi, isNewMoon, theOne, newMoonDaysOf, solsticesOf, zhongqiDaysOf, daysByMarks, suiFor}
+use Rattle.sui.specs.Sui.{isSolstice, isZhongqi, isNewMoon, oneSolstice, newMoonDaysOf, solsticesOf, zhongqiDaysOf, daysByMarks, suiFor}
 
 -- ---- how the examples are written
 -- marks of consecutive indices at these seconds, all so many days later
@@ -129,7 +129,7 @@ one c1 = pos 0 ∷ c1 ∷ replicate 12 (pos 0)
 
 unfoldable pub examples : List Bool
 unfolding
-    isSolstice isZhongqi isNewMoon theOne newMoonDaysOf solsticesOf zhongqiDaysOf daysByMarks suiFor select
+    isSolstice isZhongqi isNewMoon oneSolstice newMoonDaysOf solsticesOf zhongqiDaysOf daysByMarks suiFor select
     daysOf daysFound notAfter byFirst bySecond isMissing moonMissing monthCount twelveOrThirteen countOf yearInRange
     dayIn dayOfMilli milliIn reading localMilli tai holdsFrom holds entryUsed lastBelow
     leapYearsTo newYear yearOrNext yearOf floorDiv floorMod
@@ -152,13 +152,13 @@ examples =
     ∷ not (isNewMoon (at (pos 2)))
     ∷ not (isNewMoon (at (negsuc 0)))
     -- a solstice missing or doubled
-    ∷ isMark (theOne (at (pos 18) ∷ [])) (pos 18)
-    ∷ isRefused (theOne []) 8
-    ∷ isRefused (theOne (at (pos 18) ∷ at (pos 42) ∷ [])) 8
+    ∷ isMark (oneSolstice (at (pos 18) ∷ [])) (pos 18)
+    ∷ isRefused (oneSolstice []) 8
+    ∷ isRefused (oneSolstice (at (pos 18) ∷ at (pos 42) ∷ [])) 8
     -- its year is that of its UTC+8 day: second -28,735 is the first of 2000 there, -28,736 the last of 1999
-    ∷ isMark (theOne (solsticesOf table utc8 (marked (pos 18) (negsuc 28735) ∷ marked (pos 42) (negsuc 28734) ∷ []) (pos 1999))) (pos 18)
-    ∷ isMark (theOne (solsticesOf table utc8 (marked (pos 18) (negsuc 28735) ∷ marked (pos 42) (negsuc 28734) ∷ []) (pos 2000))) (pos 42)
-    ∷ isRefused (theOne (solsticesOf table (pos 0) (marked (pos 18) (negsuc 28735) ∷ marked (pos 42) (negsuc 28734) ∷ []) (pos 1999))) 8
+    ∷ isMark (oneSolstice (solsticesOf table utc8 (marked (pos 18) (negsuc 28735) ∷ marked (pos 42) (negsuc 28734) ∷ []) (pos 1999))) (pos 18)
+    ∷ isMark (oneSolstice (solsticesOf table utc8 (marked (pos 18) (negsuc 28735) ∷ marked (pos 42) (negsuc 28734) ∷ []) (pos 2000))) (pos 42)
+    ∷ isRefused (oneSolstice (solsticesOf table (pos 0) (marked (pos 18) (negsuc 28735) ∷ marked (pos 42) (negsuc 28734) ∷ []) (pos 1999))) 8
     -- two real suis
     ∷ isDays (suiAt (pos 0) (pos 2033)) (pos 0) 12 moons2033 zhongqi2033
     ∷ isDays (suiAt (pos 0) (pos 2034)) (pos 0) 13 moons2034 zhongqi2034

@@ -31,10 +31,10 @@ unfoldable pub isNewMoon : Mark → Bool
 isNewMoon m = eqb (floorMod (m .index) 4) 0
 
 -- "the one listed solstice": 8 for "a solstice missing or doubled"
-unfoldable pub theOne : List Mark → Verdict Mark
-theOne [] = refused 8 0
-theOne (m ∷ []) = answered m
-theOne (m ∷ n ∷ marks) = refused 8 0
+unfoldable pub oneSolstice : List Mark → Verdict Mark
+oneSolstice [] = refused 8 0
+oneSolstice (m ∷ []) = answered m
+oneSolstice (m ∷ n ∷ marks) = refused 8 0
 
 -- ---- by the listed marks of Sun and Moon, whatever they are
 module _ (leap : List ℤ) (zone : ℤ) where
@@ -59,7 +59,7 @@ module _ (leap : List ℤ) (zone : ℤ) where
   unfoldable pub daysByMarks : List Mark → List Mark → ℤ → Verdict SuiDays
   daysByMarks sunMarks moonMarks year =
       refuseWhen (not (yearInRange year)) 8
-      before (theOne (solsticesOf sunMarks (year -ℤ pos 1)) then λ first. theOne (solsticesOf sunMarks year) then λ last. daysOf (newMoonDaysOf moonMarks) (zhongqiDaysOf sunMarks first last))
+      before (oneSolstice (solsticesOf sunMarks (year -ℤ pos 1)) then λ first. oneSolstice (solsticesOf sunMarks year) then λ last. daysOf (newMoonDaysOf moonMarks) (zhongqiDaysOf sunMarks first last))
 
 -- ---- by a leap table and two series
 module _ (i : Inputs) (zone : ℤ) where

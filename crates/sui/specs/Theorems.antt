@@ -21,7 +21,7 @@ use Rattle.months.specs.Limits.{rising}
 use Rattle.months.specs.Answers.{suiAnswer}
 use Rattle.months.specs.Theorems.{Meet, months-meet, thirteen-have-one-without}
 use Rattle.months.specs.theory.Suis.{IsSui}
-use Rattle.sui.specs.Sui.{newMoonDays, solsticesIn, zhongqiDays, theOne, suiDays, suiFor}
+use Rattle.sui.specs.Sui.{newMoonDays, solsticesIn, zhongqiDays, oneSolstice, suiDays, suiFor}
 use Rattle.sui.specs.theory.Answered.{days-found, inputs-answered}
 use Rattle.sui.specs.theory.Counting.{by-small}
 use Rattle.sui.specs.theory.Solstices.{eve, solstice, solstices, solsticeDay, solsticesBy, one-circle-on, in-year-means, zhongqi-are}
@@ -29,7 +29,7 @@ use Rattle.sui.specs.theory.Found.{this}
 use Rattle.sui.specs.theory.Apart.{new-moons-rise}
 
 -- ---- the solstices of a sui
-module _ (i : Inputs) (zone : ℤ) (k : Known i) (year : ℤ) {first last : Mark} (one : theOne (solsticesIn i zone (year -ℤ pos 1)) ≡ answered first) (two : theOne (solsticesIn i zone year) ≡ answered last) where
+module _ (i : Inputs) (zone : ℤ) (k : Known i) (year : ℤ) {first last : Mark} (one : oneSolstice (solsticesIn i zone (year -ℤ pos 1)) ≡ answered first) (two : oneSolstice (solsticesIn i zone year) ≡ answered last) where
   -- the first is the n-th listed solstice, the second the next one
   place : ℕ
   place = solsticesBy i zone k (eve (year -ℤ pos 1))
@@ -65,8 +65,8 @@ pub record IsSuiOf (i : Inputs) (zone year : ℤ) (sui : Sui) : Type 0 where
   pub is-known : Known i
   pub first : Mark
   pub last : Mark
-  pub is-first : theOne (solsticesIn i zone (year -ℤ pos 1)) ≡ answered first
-  pub is-last : theOne (solsticesIn i zone year) ≡ answered last
+  pub is-first : oneSolstice (solsticesIn i zone (year -ℤ pos 1)) ≡ answered first
+  pub is-last : oneSolstice (solsticesIn i zone year) ≡ answered last
   pub is-sui : IsSui year (newMoonDays i zone) (zhongqiDays i zone first last) sui
 
 pub answered-is-sui : (i : Inputs) (zone year : ℤ) {sui : Sui} → suiFor i zone year ≡ answered sui → IsSuiOf i zone year sui

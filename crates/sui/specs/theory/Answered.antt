@@ -24,7 +24,7 @@ use Rattle.inputs.specs.theory.Converted.{mark-converts}
 use Rattle.months.specs.declared.SuiDays.{SuiDays}
 use Rattle.months.specs.Months.{daysOf, suiOf}
 use Rattle.months.specs.Limits.{yearInRange}
-use Rattle.sui.specs.Sui.{newMoonDays, solsticesIn, zhongqiDays, theOne, suiDays, suiFor, daysByMarks}
+use Rattle.sui.specs.Sui.{newMoonDays, solsticesIn, zhongqiDays, oneSolstice, suiDays, suiFor, daysByMarks}
 use Rattle.sui.specs.theory.Listed.{turnIndexOf, turnsOf, turn-after, turn-by-last, turnDay}
 use Rattle.sui.specs.theory.Solstices.{new-moons-are}
 
@@ -43,17 +43,17 @@ pub record Found (i : Inputs) (zone year : ℤ) (days : SuiDays) : Type 0 where
   pub in-range : yearInRange year ≡ true
   pub first : Mark
   pub last : Mark
-  pub is-first : theOne (solsticesIn i zone (year -ℤ pos 1)) ≡ answered first
-  pub is-last : theOne (solsticesIn i zone year) ≡ answered last
+  pub is-first : oneSolstice (solsticesIn i zone (year -ℤ pos 1)) ≡ answered first
+  pub is-last : oneSolstice (solsticesIn i zone year) ≡ answered last
   pub by-rule : daysOf (newMoonDays i zone) (zhongqiDays i zone first last) ≡ answered days
 
 pub days-found : (i : Inputs) (zone year : ℤ) {days : SuiDays} → suiDays i zone year ≡ answered days → Found i zone year days
 unfolding suiDays daysByMarks
 days-found i zone year {days} e =
-    let rest = theOne (solsticesIn i zone (year -ℤ pos 1)) then λ first. theOne (solsticesIn i zone year) then λ last. daysOf (newMoonDays i zone) (zhongqiDays i zone first last) in
+    let rest = oneSolstice (solsticesIn i zone (year -ℤ pos 1)) then λ first. oneSolstice (solsticesIn i zone year) then λ last. daysOf (newMoonDays i zone) (zhongqiDays i zone first last) in
     let tested = test-answered (not (yearInRange year)) 8 rest days e in
-    let one = then-answered (theOne (solsticesIn i zone (year -ℤ pos 1))) (λ first. theOne (solsticesIn i zone year) then λ last. daysOf (newMoonDays i zone) (zhongqiDays i zone first last)) days (tested .1) in
-    let two = then-answered (theOne (solsticesIn i zone year)) (λ last. daysOf (newMoonDays i zone) (zhongqiDays i zone (one .0) last)) days (one .2) in
+    let one = then-answered (oneSolstice (solsticesIn i zone (year -ℤ pos 1))) (λ first. oneSolstice (solsticesIn i zone year) then λ last. daysOf (newMoonDays i zone) (zhongqiDays i zone first last)) days (tested .1) in
+    let two = then-answered (oneSolstice (solsticesIn i zone year)) (λ last. daysOf (newMoonDays i zone) (zhongqiDays i zone (one .0) last)) days (one .2) in
     record {
       in-range = not-false (yearInRange year) (tested .0);
       first = one .0;

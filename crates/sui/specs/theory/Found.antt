@@ -23,7 +23,7 @@ use Rattle.inputs.specs.Known.{Known}
 use Rattle.months.specs.declared.SuiDays.{SuiDays}
 use Rattle.months.specs.Months.{daysOf}
 use Rattle.months.specs.Limits.{yearInRange}
-use Rattle.sui.specs.Sui.{newMoonDays, solsticesIn, zhongqiDays, theOne, suiDays, daysByMarks}
+use Rattle.sui.specs.Sui.{newMoonDays, solsticesIn, zhongqiDays, oneSolstice, suiDays, daysByMarks}
 use Rattle.sui.specs.theory.Counting.{by, by-small, by-later}
 use Rattle.sui.specs.theory.Listed.{turnIndexOf, turnsOf, turn-by-last, turnDay, turnDays, turn-days-rise}
 use Rattle.sui.specs.theory.Solstices.{eve, solstice, solsticesBy, one-circle-on, one-in-year, not-one-in-year, zhongqi-are, new-moons-are}
@@ -67,7 +67,7 @@ module _ (i : Inputs) (zone : ℤ) (k : Known i) (year : ℤ) where
   counts-in-order {y} {z} h = by-later (turnDay (i .leap) (sun i) zone) (turnsOf (sun i)) (turn-days-rise (i .leap) (sun i) zone (k .sun-ready)) (eve y) (eve z) (eves-in-order h)
 
   abbrev rest : Verdict SuiDays
-  rest = theOne (solsticesIn i zone (year -ℤ pos 1)) then λ first. theOne (solsticesIn i zone year) then λ last. daysOf (newMoonDays i zone) (zhongqiDays i zone first last)
+  rest = oneSolstice (solsticesIn i zone (year -ℤ pos 1)) then λ first. oneSolstice (solsticesIn i zone year) then λ last. daysOf (newMoonDays i zone) (zhongqiDays i zone first last)
 
   found : (p q : Bool) → eqb (solsticesBy i zone k (eve year)) (b + 1) ≡ p → eqb (solsticesBy i zone k (eve (year +ℤ pos 1))) (b + 1 + 1) ≡ q →
       rest ≡ cond (p && q) (answered (turnIndexOf (sun i) b)) (refused 8 0) then (λ j. daysOf (turnDays (i .leap) (moon i) zone) (zhongqiFrom (i .leap) (sun i) zone j))

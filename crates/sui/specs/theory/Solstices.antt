@@ -26,7 +26,7 @@ use Rattle.marks.specs.Listed.{listedMarks, firstReached}
 use Rattle.inputs.specs.Inputs.{Inputs, sun, moon, dayOfMark}
 use Rattle.inputs.specs.Known.{Known}
 use Rattle.sui.specs.Selected.{select, select-both, map-tabulate, tabulate-same, Passing, selected}
-use Rattle.sui.specs.Sui.{isSolstice, isZhongqi, isNewMoon, dayIs, newMoonDays, solsticesIn, zhongqiDays, theOne, solsticesOf, zhongqiDaysOf, newMoonDaysOf}
+use Rattle.sui.specs.Sui.{isSolstice, isZhongqi, isNewMoon, dayIs, newMoonDays, solsticesIn, zhongqiDays, oneSolstice, solsticesOf, zhongqiDaysOf, newMoonDaysOf}
 use Rattle.sui.specs.theory.Counting.{Rises, by, by-small, split, is-by, is-after}
 use Rattle.sui.specs.theory.Turns.{isTurn, gap, at-place, is-turn}
 use Rattle.sui.specs.theory.Listed.{markOf, turnIndexOf, turnsOf, placeIn, turn-by-last, listed, nth, listed-is, place-listed, turns-listed, turnDay, turnDays, turn-days-rise}
@@ -54,18 +54,18 @@ year-in year day e =
     )
 
 -- ---- the one of a list
-two-or-more : (l : List Mark) (a b : Mark) → theOne ((l ++ (a ∷ [])) ++ (b ∷ [])) ≡ refused 8 0
-unfolding theOne
+two-or-more : (l : List Mark) (a b : Mark) → oneSolstice ((l ++ (a ∷ [])) ++ (b ∷ [])) ≡ refused 8 0
+unfolding oneSolstice
 two-or-more [] a b = refl
 two-or-more (x ∷ []) a b = refl
 two-or-more (x ∷ y ∷ l) a b = refl
 
-pub one-of : (f : ℕ → Mark) (n : ℕ) → n ≡ 1 → theOne (tabulate f n) ≡ answered (f 0)
-unfolding theOne
+pub one-of : (f : ℕ → Mark) (n : ℕ) → n ≡ 1 → oneSolstice (tabulate f n) ≡ answered (f 0)
+unfolding oneSolstice
 one-of f n e = rw e
 
-pub none-of-them : (f : ℕ → Mark) (n : ℕ) → (n ≡ 1 → ⊥) → theOne (tabulate f n) ≡ refused 8 0
-none-of-them f zero other = unfold theOne in refl
+pub none-of-them : (f : ℕ → Mark) (n : ℕ) → (n ≡ 1 → ⊥) → oneSolstice (tabulate f n) ≡ refused 8 0
+none-of-them f zero other = unfold oneSolstice in refl
 none-of-them f (suc zero) other = absurd (other refl)
 none-of-them f (suc (suc n)) other = two-or-more (tabulate f n) (f n) (f (suc n))
 
@@ -78,8 +78,8 @@ one-circle-on start coefs n =
     rw more (⇑ ρ (search ring depth 9) refl)
 
 -- and where there is one, it is the only one
-one-means : (f : ℕ → Mark) (n : ℕ) {m : Mark} → theOne (tabulate f n) ≡ answered m → (n ≡ 1) × (f 0 ≡ m)
-unfolding theOne
+one-means : (f : ℕ → Mark) (n : ℕ) {m : Mark} → oneSolstice (tabulate f n) ≡ answered m → (n ≡ 1) × (f 0 ≡ m)
+unfolding oneSolstice
 one-means f zero e = answer-or-refusal (sym e)
 one-means f (suc zero) e = (refl, answers-apart e)
 one-means f (suc (suc n)) e = answer-or-refusal (sym e ∙ two-or-more (tabulate f n) (f n) (f (suc n)))
@@ -136,18 +136,18 @@ module _ (i : Inputs) (zone : ℤ) (k : Known i) where
         select-both isSolstice ofYear (listedMarks (sun i)) ∙ ap (select ofYear) (turns-listed (sun i) (k .sun-ready .is-accepted))
         ∙ selected ofYear solstice (λ n. before + n) (λ a b h. omega arith) solstices (upTo - before) of-year
 
-    pub one-in-year : upTo ≡ before + 1 → theOne (solsticesIn i zone year) ≡ answered (solstice before)
+    pub one-in-year : upTo ≡ before + 1 → oneSolstice (solsticesIn i zone year) ≡ answered (solstice before)
     one-in-year e =
         let first : before + 0 ≡ before = omega arith in
         rw solstices-are (one-of (λ n. solstice (before + n)) (upTo - before) (omega arith) ∙ ap (λ (n : ℕ). answered (solstice n)) first)
 
-    pub in-year-means : {m : Mark} → theOne (solsticesIn i zone year) ≡ answered m → (upTo ≡ before + 1) × (solstice before ≡ m)
+    pub in-year-means : {m : Mark} → oneSolstice (solsticesIn i zone year) ≡ answered m → (upTo ≡ before + 1) × (solstice before ≡ m)
     in-year-means {m} e =
         let first : before + 0 ≡ before = omega arith in
         let means = one-means (λ n. solstice (before + n)) (upTo - before) (rw solstices-are at e) in
         (omega (arith, means .0), ap solstice (sym first) ∙ means .1)
 
-    pub not-one-in-year : before ≤ upTo → (upTo ≡ before + 1 → ⊥) → theOne (solsticesIn i zone year) ≡ refused 8 0
+    pub not-one-in-year : before ≤ upTo → (upTo ≡ before + 1 → ⊥) → oneSolstice (solsticesIn i zone year) ≡ refused 8 0
     not-one-in-year h other = rw solstices-are (none-of-them (λ n. solstice (before + n)) (upTo - before) (λ e. other (omega arith)))
 
   -- ---- the zhongqi from a solstice to the next
