@@ -1,0 +1,5 @@
+pub mod Selected
+pub mod Sui
+pub mod Examples
+pub mod Theorems
+pub mod theory
