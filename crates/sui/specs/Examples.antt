@@ -27,7 +27,7 @@ use Rattle.months.specs.declared.SuiDays.{SuiDays}
 use Rattle.months.specs.Months.{notAfter, byFirst, bySecond, isMissing, moonMissing, monthCount, twelveOrThirteen, daysFound, daysOf}
 use Rattle.months.specs.Limits.{yearInRange}
 use Rattle.sui.specs.Selected.{select}
-use Rattle.sui.specs.Sui.{isSolstice, isZhongqi, isNewMoon, oneSolstice, newMoonDaysOf, solsticesOf, zhongqiDaysOf, daysByMarks, suiFor}
+use Rattle.sui.specs.Sui.{isSolstice, isZhongqi, isNewMoon, oneSolstice, newMoonDaysOf, solsticesOf, zhongqiDaysOf, daysByMarks, suiDays, suiFor}
 
 -- ---- how the examples are written
 -- marks of consecutive indices at these seconds, all so many days later
@@ -129,7 +129,7 @@ one c1 = pos 0 ∷ c1 ∷ replicate 12 (pos 0)
 
 unfoldable pub examples : List Bool
 unfolding
-    isSolstice isZhongqi isNewMoon oneSolstice newMoonDaysOf solsticesOf zhongqiDaysOf daysByMarks suiFor select
+    isSolstice isZhongqi isNewMoon oneSolstice newMoonDaysOf solsticesOf zhongqiDaysOf daysByMarks suiDays suiFor select
     daysOf daysFound notAfter byFirst bySecond isMissing moonMissing monthCount twelveOrThirteen countOf yearInRange
     dayIn dayOfMilli milliIn reading localMilli tai holdsFrom holds entryUsed lastBelow
     leapYearsTo newYear yearOrNext yearOf floorDiv floorMod
