@@ -6,7 +6,6 @@ ghost use lib.IntN.{pos};
 ghost use lib.Signed.{leZ};
 ghost use lib.ListN.{length, take, drop, replicate};
 ghost use Rattle.whole.specs.Counted.{one};
-ghost use Rattle.months.specs.Months.{isMissing, twelveOrThirteen};
 
 // Whether a day counts: it is not after `day`.
 pub fn counts(d: i64, day: i64) -> usize
@@ -16,16 +15,6 @@ pub fn counts(d: i64, day: i64) -> usize
         return 1;
     }
     0
-}
-
-// 12 or 13.
-pub fn twelve_or_thirteen(n: usize) -> bool
-    ensures { λ r. ⌜ r ≡ twelveOrThirteen n ⌝ }
-{
-    if n == 12 {
-        return true;
-    }
-    n == 13
 }
 
 // So many days from a place on, then zeros.
@@ -55,24 +44,4 @@ pub fn thirteen(days: &[i64]) -> [i64; 13]
         i += 1;
     }
     out
-}
-
-// How many more new moons are not after the second solstice than not after the first.
-pub fn month_count(first: usize, second: usize) -> usize
-    ensures { λ r. ⌜ r ≡ second - first ⌝ }
-{
-    if second < first {
-        return 0;
-    }
-    second - first
-}
-
-// Whether month 11 has no new moon to begin on, or none lies behind the second solstice.
-pub fn moon_missing(first: usize, second: usize, listed: usize) -> bool
-    ensures { λ r. ⌜ r ≡ isMissing first second listed ⌝ }
-{
-    if first == 0 {
-        return true;
-    }
-    listed <= second
 }

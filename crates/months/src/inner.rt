@@ -6,10 +6,7 @@ use super::SuiAnswer;
 use super::SuiDays;
 use super::finding::counts;
 use super::finding::fourteen;
-use super::finding::month_count;
-use super::finding::moon_missing;
 use super::finding::thirteen;
-use super::finding::twelve_or_thirteen;
 use super::numbering::first_bad_month;
 use super::numbering::handle;
 use super::numbering::leap_mark;
@@ -21,12 +18,12 @@ use refusals::Refusal;
 use whole::inner::subtract;
 ghost use mathlib.Core.Path.{_≡_};
 ghost use mathlib.Core.Bool.{true};
-ghost use Prim.Native.Nat.{_<_};
+ghost use Prim.Native.Nat.{_-_, _<_};
 ghost use lib.ListN.{length};
 ghost use Rattle.refusals.specs.Verdict.{refusal};
 ghost use Rattle.whole.specs.Ranges.{Within, All};
 ghost use Rattle.months.specs.Handles.{monthOf};
-ghost use Rattle.months.specs.Months.{notAfter, twelveOrThirteen, daysOf, suiOf};
+ghost use Rattle.months.specs.Months.{notAfter, isMissing, twelveOrThirteen, daysOf, suiOf};
 ghost use Rattle.months.specs.Answers.{daysAnswer, suiAnswer};
 
 // No days of a sui, for this reason.
@@ -132,4 +129,34 @@ pub fn sui_of(year: i64, days: SuiDays) -> SuiAnswer
         check: Check::Accepted,
         sui: numbered(year, days, leap),
     }
+}
+
+// How many more new moons are not after the second solstice than not after the first.
+pub fn month_count(first: usize, second: usize) -> usize
+    ensures { λ r. ⌜ r ≡ second - first ⌝ }
+{
+    if second < first {
+        return 0;
+    }
+    second - first
+}
+
+// Whether month 11 has no new moon to begin on, or none lies behind the second solstice.
+pub fn moon_missing(first: usize, second: usize, listed: usize) -> bool
+    ensures { λ r. ⌜ r ≡ isMissing first second listed ⌝ }
+{
+    if first == 0 {
+        return true;
+    }
+    listed <= second
+}
+
+// 12 or 13.
+pub fn twelve_or_thirteen(n: usize) -> bool
+    ensures { λ r. ⌜ r ≡ twelveOrThirteen n ⌝ }
+{
+    if n == 12 {
+        return true;
+    }
+    n == 13
 }

@@ -7,7 +7,10 @@ use super::turns::turns_of;
 use dates::Date;
 use months::DaysAnswer;
 use months::SuiDays;
+use months::inner::month_count;
+use months::inner::moon_missing;
 use months::inner::no_days;
+use months::inner::twelve_or_thirteen;
 use refusals::Check;
 use series::Body;
 use times::Day;
@@ -28,7 +31,7 @@ ghost use Rattle.series.specs.Series.{series};
 ghost use Rattle.marks.specs.Listed.{firstReached, lastReached};
 ghost use Rattle.inputs.specs.Inputs.{dayOfMark};
 ghost use Rattle.inputs.specs.Known.{Ready};
-ghost use Rattle.months.specs.Months.{isMissing, twelveOrThirteen, daysOf};
+ghost use Rattle.months.specs.Months.{daysOf};
 ghost use Rattle.months.specs.Answers.{daysAnswer};
 ghost use Rattle.sui.specs.theory.Listed.{turnDay, turnDays};
 ghost use Rattle.sui.specs.theory.Solstices.{eve};
@@ -131,36 +134,6 @@ fn moon_days(
         i += 1;
     }
     days
-}
-
-// Whether month 11 has no new moon to begin on, or none lies behind the second solstice.
-fn moon_missing(first: usize, second: usize, listed: usize) -> bool
-    ensures { λ r. ⌜ r ≡ isMissing first second listed ⌝ }
-{
-    if first == 0 {
-        return true;
-    }
-    listed <= second
-}
-
-// How many more new moons are not after the second solstice than not after the first.
-fn month_count(first: usize, second: usize) -> usize
-    ensures { λ r. ⌜ r ≡ second - first ⌝ }
-{
-    if second < first {
-        return 0;
-    }
-    second - first
-}
-
-// 12 or 13.
-fn twelve_or_thirteen(n: usize) -> bool
-    ensures { λ r. ⌜ r ≡ twelveOrThirteen n ⌝ }
-{
-    if n == 12 {
-        return true;
-    }
-    n == 13
 }
 
 // The days of the sui with these zhongqi days, by the Moon's new moons.

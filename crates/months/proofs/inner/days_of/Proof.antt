@@ -19,12 +19,12 @@ use Rattle.months.proofs.inner.days_of.Tie as tie
 use Rattle.months.proofs.inner.days_of.Reads as reads
 use Rattle.months.proofs.inner.days_of.Lts as lts
 use Rattle.months.proofs.finding.fourteen.Reads as fourteen-reads
-use Rattle.months.proofs.finding.month_count.Reads as month-count-reads
-use Rattle.months.proofs.finding.moon_missing.Reads as moon-missing-reads
+use Rattle.months.proofs.inner.month_count.Reads as month-count-reads
+use Rattle.months.proofs.inner.moon_missing.Reads as moon-missing-reads
 use Rattle.months.proofs.inner.no_days.Reads as no-days-reads
 use Rattle.months.proofs.inner.not_after.Reads as not-after-reads
 use Rattle.months.proofs.finding.thirteen.Reads as thirteen-reads
-use Rattle.months.proofs.finding.twelve_or_thirteen.Reads as twelve-or-thirteen-reads
+use Rattle.months.proofs.inner.twelve_or_thirteen.Reads as twelve-or-thirteen-reads
 
 abbrev called : lts.Claims
 called = (

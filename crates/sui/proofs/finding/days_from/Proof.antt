@@ -28,10 +28,10 @@ use Rattle.sui.proofs.finding.days_from.Tie as tie
 use Rattle.sui.proofs.finding.days_from.Reads as reads
 use Rattle.sui.proofs.finding.days_from.Lts as lts
 use Rattle.months.proofs.inner.no_days.Reads as no-days-reads
-use Rattle.sui.proofs.finding.month_count.Reads as month-count-reads
+use Rattle.months.proofs.inner.month_count.Reads as month-count-reads
 use Rattle.sui.proofs.finding.moon_days.Reads as moon-days-reads
-use Rattle.sui.proofs.finding.moon_missing.Reads as moon-missing-reads
-use Rattle.sui.proofs.finding.twelve_or_thirteen.Reads as twelve-or-thirteen-reads
+use Rattle.months.proofs.inner.moon_missing.Reads as moon-missing-reads
+use Rattle.months.proofs.inner.twelve_or_thirteen.Reads as twelve-or-thirteen-reads
 use Rattle.sui.proofs.turns.turns_by.Reads as turns-by-reads
 use Rattle.sui.proofs.turns.turns_of.Reads as turns-of-reads
 

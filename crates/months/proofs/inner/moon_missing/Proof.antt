@@ -1,7 +1,7 @@
--- `months::finding::moon_missing` meets its contract. Assumes nothing.
+-- `months::inner::moon_missing` meets its contract. Assumes nothing.
 use Rattle.months.specs.theory.Listed.{none-first, some-first}
-use Rattle.months.proofs.finding.moon_missing.Statement.{statement}
-use Rattle.months.proofs.finding.moon_missing.Tie as tie
+use Rattle.months.proofs.inner.moon_missing.Statement.{statement}
+use Rattle.months.proofs.inner.moon_missing.Tie as tie
 
 returns : tie.Need-returns
 returns c = let a = c .before .args in none-first (a .first) (a .second) (a .listed) (c .if1 .taken)

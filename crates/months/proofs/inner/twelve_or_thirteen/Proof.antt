@@ -1,7 +1,7 @@
--- `months::finding::twelve_or_thirteen` meets its contract. Assumes nothing.
+-- `months::inner::twelve_or_thirteen` meets its contract. Assumes nothing.
 use Rattle.months.specs.theory.Listed.{is-twelve, not-twelve}
-use Rattle.months.proofs.finding.twelve_or_thirteen.Statement.{statement}
-use Rattle.months.proofs.finding.twelve_or_thirteen.Tie as tie
+use Rattle.months.proofs.inner.twelve_or_thirteen.Statement.{statement}
+use Rattle.months.proofs.inner.twelve_or_thirteen.Tie as tie
 
 returns : tie.Need-returns
 returns c = is-twelve (c .before .args .n) (c .if1 .taken)
