@@ -7,7 +7,7 @@ use mathlib.Core.List.{List}
 use lib.IntN.{ℤ, pos, _+ℤ_, _-ℤ_}
 use Rattle.whole.specs.Parts.{_⩽_, _≺_}
 use Rattle.whole.specs.Ranges.{Within, within, bounds}
-use Rattle.refusals.specs.Verdict.{answered}
+use Rattle.refusals.specs.Verdict.{answered, answered-says}
 use Rattle.times.specs.declared.Day.{Day}
 use Rattle.times.specs.declared.Second.{Second}
 use Rattle.dates.specs.Answers.{hasDate}
@@ -16,7 +16,7 @@ use Rattle.clock.specs.Clock.{utc8, convertible, tai, early, reading, mi
 use Rattle.clock.specs.Answers.{clockJudged, dayOfSecond}
 use Rattle.clock.specs.theory.Used.{used}
 use Rattle.clock.specs.theory.Sizes.{reading-has-date}
-use Rattle.clock.specs.theory.Judged.{readable, first-holds, holds-first, answered-says}
+use Rattle.clock.specs.theory.Judged.{readable, first-holds, holds-first}
 use Rattle.clock.specs.theory.Days.{tai-goes-on, holds-on, day-goes-on}
 use Rattle.clock.specs.theory.Inserted as inserted
 

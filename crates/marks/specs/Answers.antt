@@ -1,12 +1,12 @@
 -- What the two entry points answer, on paper, and what the lent list holds afterwards (document 01, "Marks" and "Refusal numbers"): 2 to 5 for the series, then
 -- 12 where the lent room has fewer places than the marks fill. A place is two words, index and second. Assumes nothing: these are definitions.
-use mathlib.Core.List.{List, _++_}
+use mathlib.Core.List.{List}
 use mathlib.Core.Path.{_≡_}
 use Prim.Native.Nat.{ℕ, _*_, _≤_}
 use lib.Dec.{ltb}
-use lib.ListN.{length, drop}
+use lib.ListN.{length}
 use lib.IntN.{ℤ, pos}
-use Rattle.refusals.specs.Verdict.{Verdict, answered, refused, refusal, refuseWhen, _before_}
+use Rattle.refusals.specs.Verdict.{Verdict, answered, refusal, refuseWhen, _before_}
 use Rattle.series.specs.Series.{Series}
 use Rattle.series.specs.Acceptance.{Accepted, seriesJudged}
 use Rattle.marks.specs.declared.CountAnswer.{CountAnswer}
@@ -42,10 +42,9 @@ pub record Answered (s : Series) (room n : ℕ) : Type 0 where
   pub is-count : n ≡ length (listedMarks s)
   pub has-room : 2 * n ≤ room
 
--- A lent slice afterwards: as it was where the call is refused; else the words, and behind them what stood there.
-abbrev pub writtenInto : Verdict ℕ → List ℤ → List ℤ → List ℤ
-writtenInto (answered n) words out = words ++ drop (length words) out
-writtenInto (refused number segment) words out = out
+-- What is written into a lent slice (`writtenInto` of `refusals` says what it holds afterwards): two words a mark, however many.
+abbrev pub wordsListed : Series → ℕ → List ℤ
+wordsListed s n = markWords (listedMarks s)
 
 -- the program's listed mark on paper, and what stands where a list has none
 abbrev pub markOf : ListedMark → Mark

@@ -10,9 +10,8 @@ use Rattle.marks.specs.declared.CountAnswer.{CountAnswer}
 use Rattle.marks.specs.declared.CountAnswer.the-variants as count-answer
 use Rattle.marks.specs.declared.ListAnswer.{ListAnswer}
 use Rattle.marks.specs.declared.ListAnswer.the-variants as list-answer
-use Rattle.marks.specs.Listed.{listedMarks}
-use Rattle.marks.specs.Words.{markWords}
-use Rattle.marks.specs.Answers.{paperCount, paperList, countedMarks, listedInto, writtenInto}
+use Rattle.refusals.specs.Lent.{writtenInto}
+use Rattle.marks.specs.Answers.{paperCount, paperList, countedMarks, listedInto, wordsListed}
 
 pub counts-apart : OneToOne paperCount
 counts-apart (count-answer.Marks n) (count-answer.Marks m) e = ap count-answer.Marks (answers-apart e)
@@ -32,5 +31,5 @@ count-marks-one-result s = one-result paperCount counts-apart
 pub list-marks-one-result : (s : Series) (room : ℕ) (a b : ListAnswer) → paperList a ≡ listedInto s room → paperList b ≡ listedInto s room → a ≡ b
 list-marks-one-result s room = one-result paperList lists-apart
 
-pub list-marks-one-content : (s : Series) (out a b : List ℤ) → a ≡ writtenInto (listedInto s (length out)) (markWords (listedMarks s)) out → b ≡ writtenInto (listedInto s (length out)) (markWords (listedMarks s)) out → a ≡ b
+pub list-marks-one-content : (s : Series) (out a b : List ℤ) → a ≡ writtenInto (listedInto s (length out)) (wordsListed s) out → b ≡ writtenInto (listedInto s (length out)) (wordsListed s) out → a ≡ b
 list-marks-one-content s out = one-content

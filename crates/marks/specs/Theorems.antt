@@ -20,7 +20,8 @@ use Rattle.series.specs.theory.Span.{span-ordered}
 use Rattle.marks.specs.Crossings.{marked, InTimeOrder, numbered}
 use Rattle.marks.specs.Listed.{marksBetween, listedMarks, reachedAt, firstReached, lastReached, secondOfMark, MarkAt, ListedAt, ExactUnder, ExactReached, ExactOver}
 use Rattle.marks.specs.Words.{markWords}
-use Rattle.marks.specs.Answers.{listedInto, writtenInto, Answered}
+use Rattle.refusals.specs.Lent.{writtenInto}
+use Rattle.marks.specs.Answers.{listedInto, wordsListed, Answered}
 use Rattle.marks.specs.theory.Words.{words-length}
 use Rattle.marks.specs.theory.Answered.{answered-means}
 use Rattle.marks.specs.theory.StretchLaws.{joined, none, neighbours}
@@ -73,7 +74,7 @@ module _ (s : Series) (e : Accepted s) where
   -- ---- for the entry point `list_marks`: an accepted series with room enough is listed, in these words, and behind them stands what stood there
   pub accepted-is-listed : (out : List ℤ) → 2 * length (listedMarks s) ≤ length out →
       (listedInto s (length out) ≡ answered (length (listedMarks s)))
-      × (writtenInto (listedInto s (length out)) (markWords (listedMarks s)) out ≡ markWords (listedMarks s) ++ drop (2 * length (listedMarks s)) out)
+      × (writtenInto (listedInto s (length out)) (wordsListed s) out ≡ markWords (listedMarks s) ++ drop (2 * length (listedMarks s)) out)
   accepted-is-listed out room =
       let size = words-length (listedMarks s) in
       let enough : length (markWords (listedMarks s)) ≤ length out = omega arith in

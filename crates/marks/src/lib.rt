@@ -9,8 +9,9 @@ ghost use Rattle.series.specs.Series.{series};
 ghost use Rattle.series.specs.Acceptance.{Accepted};
 ghost use Rattle.marks.specs.Words.{markWords};
 ghost use Rattle.marks.specs.Stretch.{StretchOf};
-ghost use Rattle.marks.specs.Listed.{marksBetween, listedMarks};
-ghost use Rattle.marks.specs.Answers.{paperCount, paperList, countedMarks, listedInto, writtenInto};
+ghost use Rattle.marks.specs.Listed.{marksBetween};
+ghost use Rattle.refusals.specs.Lent.{writtenInto};
+ghost use Rattle.marks.specs.Answers.{paperCount, paperList, countedMarks, listedInto, wordsListed};
 
 pub mod inner;
 mod looks;
@@ -91,7 +92,7 @@ fn plan(body: Body, start: Second, coefs: &[i64], room: usize) -> ListAnswer
 // The marks of a series in time order, from the start of `out` on: two words to a mark, its index and its second.
 pub fn list_marks(body: Body, start: Second, coefs: &[i64], out: &mut [i64]) -> ListAnswer
     ensures { λ r. ⌜ paperList r ≡ listedInto (series body (start .0) (now (coefs .entry))) (length (now (out .entry))) ⌝ }
-    ensures { λ r. ⌜ now (out .exit) ≡ writtenInto (listedInto (series body (start .0) (now (coefs .entry))) (length (now (out .entry)))) (markWords (listedMarks (series body (start .0) (now (coefs .entry))))) (now (out .entry)) ⌝ }
+    ensures { λ r. ⌜ now (out .exit) ≡ writtenInto (listedInto (series body (start .0) (now (coefs .entry))) (length (now (out .entry)))) (wordsListed (series body (start .0) (now (coefs .entry)))) (now (out .entry)) ⌝ }
 {
     let plan = plan(body, start, coefs, out.len());
     match plan {

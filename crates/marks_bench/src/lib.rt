@@ -10,9 +10,9 @@ ghost use lib.Signed.{_≤ℤ_};
 ghost use lib.ListN.{length};
 ghost use Rattle.series.specs.Series.{series};
 ghost use Rattle.series.specs.Acceptance.{Accepted};
-ghost use Rattle.marks.specs.Words.{markWords};
-ghost use Rattle.marks.specs.Listed.{listedMarks, firstReached, lastReached, secondOfMark};
-ghost use Rattle.marks.specs.Answers.{listedInto, writtenInto};
+ghost use Rattle.marks.specs.Listed.{firstReached, lastReached, secondOfMark};
+ghost use Rattle.refusals.specs.Lent.{writtenInto};
+ghost use Rattle.marks.specs.Answers.{listedInto, wordsListed};
 ghost use Rattle.marks_bench.specs.Answer.{bodyOf, answerWord};
 ghost use Rattle.marks_bench.specs.Places.{Located, locatedInto, LocatedOr};
 
@@ -33,7 +33,7 @@ fn minus(number: u8) -> i64
 #[no_mangle]
 pub extern "C" fn marks_list(moon: bool, start: i64, coefs: &[i64], out: &mut [i64]) -> i64
     ensures { λ r. ⌜ r ≡ answerWord (listedInto (series (bodyOf moon) start (now (coefs .entry))) (length (now (out .entry)))) ⌝ }
-    ensures { λ r. ⌜ now (out .exit) ≡ writtenInto (listedInto (series (bodyOf moon) start (now (coefs .entry))) (length (now (out .entry)))) (markWords (listedMarks (series (bodyOf moon) start (now (coefs .entry))))) (now (out .entry)) ⌝ }
+    ensures { λ r. ⌜ now (out .exit) ≡ writtenInto (listedInto (series (bodyOf moon) start (now (coefs .entry))) (length (now (out .entry)))) (wordsListed (series (bodyOf moon) start (now (coefs .entry)))) (now (out .entry)) ⌝ }
 {
     match marks::list_marks(body_of(moon), Second(start), coefs, out) {
         ListAnswer::Marks(n) => whole::inner::signed(n),

@@ -17,7 +17,7 @@ use Rattle.months.specs.declared.Sui.{Sui}
 use Rattle.months.specs.declared.SuiAnswer.{SuiAnswer}
 use Rattle.months.specs.Answers.{suiAnswer, paperSui}
 use Rattle.months.specs.Handles.{numberAt, leapMark, handle, handleAt, monthOf, noMonth}
-use Rattle.months.specs.Months.{notAfter, lastNotAfter, byFirst, bySecond, isMissing, moonMissing, monthCount, twelveOrThirteen, daysFound, daysOf, monthLength, isWithin, zhongqiIn, zhongqiOf, without, firstWithout, leapMonth, monthAt, numbered, goodLength, badMonth, firstBadMonth, lengthsJudged, noneWithout, leapJudged, suiOf, suiIn}
+use Rattle.months.specs.Months.{notAfter, lastNotAfter, byFirst, bySecond, isMissing, moonMissing, monthCount, twelveOrThirteen, daysFound, daysOf, monthLength, isWithin, zhongqiIn, zhongqiOf, without, firstWithout, leapMonth, monthAt, numbered, goodLength, badMonth, firstBadMonth, lengthsJudged, noneWithout, leapMonthJudged, suiOf, suiIn}
 use Rattle.months.specs.Limits.{yearInRange, rising, dayInRange, inRange, daysKept, listsKept, monthsOf}
 
 -- ---- how the examples are written
@@ -102,7 +102,7 @@ abbrev rule : List ℕ → List ℕ → Verdict Sui
 rule moons zhongqi = monthsOf (pos 2000) (days moons) (days zhongqi)
 
 unfoldable pub examples : List Bool
-unfolding countOf firstFrom firstBelow numberAt leapMark handle handleAt monthOf notAfter lastNotAfter byFirst bySecond isMissing moonMissing monthCount twelveOrThirteen daysFound daysOf monthLength isWithin zhongqiIn zhongqiOf without firstWithout leapMonth monthAt numbered goodLength badMonth firstBadMonth lengthsJudged noneWithout leapJudged suiOf suiIn yearInRange rising dayInRange inRange daysKept listsKept monthsOf
+unfolding countOf firstFrom firstBelow numberAt leapMark handle handleAt monthOf notAfter lastNotAfter byFirst bySecond isMissing moonMissing monthCount twelveOrThirteen daysFound daysOf monthLength isWithin zhongqiIn zhongqiOf without firstWithout leapMonth monthAt numbered goodLength badMonth firstBadMonth lengthsJudged noneWithout leapMonthJudged suiOf suiIn yearInRange rising dayInRange inRange daysKept listsKept monthsOf
 examples =
     -- the month at 325 is leap 9; with 325 for 324 the month at 295 is leap 8; 12 months, no leap, though 89 to 117 has none
     isSui (rule moons zhongqi) leapNine

@@ -122,11 +122,11 @@ lengthsJudged days = refuseWhen (ltb (firstBadMonth days) (days .months)) 10
 unfoldable pub noneWithout : SuiDays → Bool
 noneWithout days = eqb (days .months) 13 && eqb (firstWithout days) (days .months)
 
-unfoldable pub leapJudged : SuiDays → Verdict (Unit {0})
-leapJudged days = refuseWhen (noneWithout days) 11
+unfoldable pub leapMonthJudged : SuiDays → Verdict (Unit {0})
+leapMonthJudged days = refuseWhen (noneWithout days) 11
 
 unfoldable pub suiOf : ℤ → SuiDays → Verdict Sui
-suiOf year days = lengthsJudged days before leapJudged days before answered (numbered year days)
+suiOf year days = lengthsJudged days before leapMonthJudged days before answered (numbered year days)
 
 -- ---- the month rule
 unfoldable pub suiIn : ℤ → List ℤ → List ℤ → Verdict Sui

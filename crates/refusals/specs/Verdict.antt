@@ -86,6 +86,11 @@ pub before-accepted : (u v : Verdict (Unit {0})) → u before v ≡ accepted →
 before-accepted (answered tt) v e = (refl, e)
 before-accepted (refused number segment) v e = let z : _≡_ {A = ℕ} 0 1 = cc in absurd (omega arith)
 
+-- and an answer that stands behind a judge is that answer
+pub answered-says : {A : Type 0} {a b : A} (u : Verdict (Unit {0})) → u before answered a ≡ answered b → (u ≡ accepted) × (a ≡ b)
+answered-says (answered tt) e = (refl, answers-apart e)
+answered-says (refused number segment) e = answer-or-refusal (sym e)
+
 pub both-accepted : (u v : Verdict (Unit {0})) → u ≡ accepted → v ≡ accepted → u before v ≡ accepted
 both-accepted u v p q = rw p q
 

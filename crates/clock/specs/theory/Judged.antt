@@ -5,7 +5,7 @@ use mathlib.Core.List.{List}
 use borrow.Author.Tests.{not-false}
 use lib.IntN.{ℤ}
 use Rattle.whole.specs.Ranges.{Within}
-use Rattle.refusals.specs.Verdict.{Verdict, answered, refused, accepted, refuseWhen, _before_, before-accepted, refuseWhen-accepted, answers-apart, answer-or-refusal}
+use Rattle.refusals.specs.Verdict.{Verdict, answered, accepted, _before_, refuseWhen, before-accepted, refuseWhen-accepted}
 use Rattle.times.specs.declared.Second.{Second}
 use Rattle.clock.specs.Leap.{leapLawful, holds}
 use Rattle.clock.specs.Clock.{convertible, tai, early, Readable}
@@ -37,8 +37,3 @@ first-holds w s e = not-false (holds w (tai s) 0) e
 pub holds-first : (w : List ℤ) (s : Second) → holds w (tai s) 0 ≡ true → early w s ≡ false
 unfolding early
 holds-first w s e = rw e
-
--- an answer behind a judge: the judge accepted, and that is the answer
-pub answered-says : {A : Type 0} {a b : A} (u : Verdict (Unit {0})) → u before answered a ≡ answered b → (u ≡ accepted) × (a ≡ b)
-answered-says (answered tt) e = (refl, answers-apart e)
-answered-says (refused number segment) e = answer-or-refusal (sym e)

@@ -15,7 +15,8 @@ use Rattle.series.specs.Series.{Series, series, lastSecond}
 use Rattle.marks.specs.Words.{markWords}
 use Rattle.marks.specs.Stretch.{StretchOf}
 use Rattle.marks.specs.Listed.{listedMarks}
-use Rattle.marks.specs.Answers.{paperList, writtenInto, listedInto, Answered}
+use Rattle.refusals.specs.Lent.{writtenInto}
+use Rattle.marks.specs.Answers.{paperList, listedInto, Answered}
 use Rattle.marks.specs.theory.Words.{words-length}
 use Rattle.marks.specs.theory.Answered.{answered-means}
 use Rattle.marks.proofs.Halves.{span, marks-of}
@@ -45,10 +46,10 @@ called = (
 
 -- ---- an answer settles what the slice holds
 
-settled-refused : {answer : Verdict ℕ} (number segment : ℕ) (written out : List ℤ) → answer ≡ refused number segment → (refused number segment ≡ answer) × (out ≡ writtenInto answer written out)
+settled-refused : {answer : Verdict ℕ} (number segment : ℕ) (written out : List ℤ) → answer ≡ refused number segment → (refused number segment ≡ answer) × (out ≡ writtenInto answer (λ k. written) out)
 settled-refused number segment written out e = rw e (refl, refl)
 
-settled-listed : {answer : Verdict ℕ} (n k : ℕ) (written out : List ℤ) {filled : List ℤ} → answer ≡ answered n → length written ≡ k → filled ≡ written → (answered n ≡ answer) × (filled ++ drop k out ≡ writtenInto answer written out)
+settled-listed : {answer : Verdict ℕ} (n k : ℕ) (written out : List ℤ) {filled : List ℤ} → answer ≡ answered n → length written ≡ k → filled ≡ written → (answered n ≡ answer) × (filled ++ drop k out ≡ writtenInto answer (λ k. written) out)
 settled-listed n k written out e size p = rw (e, size, p) (refl, refl)
 
 -- ---- what is known at each place

@@ -10,7 +10,7 @@ use Rattle.refusals.specs.Verdict.{answered, refused}
 use Rattle.whole.specs.Found.{firstBelow, firstBelow-small, firstBelow-passes}
 use lib.IntN.{ℤ}
 use Rattle.months.specs.declared.SuiDays.{SuiDays}
-use Rattle.months.specs.Months.{without, firstWithout, leapMonth, noneWithout, leapJudged, lengthsJudged, firstBadMonth, numbered, suiOf}
+use Rattle.months.specs.Months.{without, firstWithout, leapMonth, noneWithout, leapMonthJudged, lengthsJudged, firstBadMonth, numbered, suiOf}
 
 module _ (days : SuiDays) where
   pub leap-of-thirteen : days .months ≡ 13 → firstWithout days ≡ leapMonth days
@@ -38,11 +38,11 @@ module _ (days : SuiDays) where
 
     module _ (good : ltb (firstBadMonth days) (days .months) ≡ false) where
       pub sui-none-without : noneWithout days ≡ true → refused 11 0 ≡ suiOf year days
-      unfolding suiOf lengthsJudged leapJudged
+      unfolding suiOf lengthsJudged leapMonthJudged
       sui-none-without e = rw (good, e)
 
       pub sui-numbered : noneWithout days ≡ false → answered (numbered year days) ≡ suiOf year days
-      unfolding suiOf lengthsJudged leapJudged
+      unfolding suiOf lengthsJudged leapMonthJudged
       sui-numbered e = rw (good, e)
 
 -- ---- where the leap month can stand

@@ -14,7 +14,7 @@ use Rattle.months.specs.declared.Month.{Month}
 use Rattle.months.specs.declared.SuiDays.{SuiDays}
 use Rattle.months.specs.declared.Sui.{Sui}
 use Rattle.months.specs.Handles.{noMonth, handleAt, monthOf}
-use Rattle.months.specs.Months.{monthFirst, leapMonth, monthAt, numbered, firstBadMonth, lengthsJudged, noneWithout, leapJudged, daysOf, suiOf, suiIn}
+use Rattle.months.specs.Months.{monthFirst, leapMonth, monthAt, numbered, firstBadMonth, lengthsJudged, noneWithout, leapMonthJudged, daysOf, suiOf, suiIn}
 use Rattle.months.specs.Limits.{rising}
 
 -- the month at a place of a sui
@@ -28,12 +28,12 @@ pub record IsSui (year : ℤ) (moons zhongqi : List ℤ) (sui : Sui) : Type 0 wh
   pub rule : suiIn year moons zhongqi ≡ answered sui
 
 module _ (year : ℤ) (days : SuiDays) {sui : Sui} (accepted : suiOf year days ≡ answered sui) where
-  lengths-pass : (ltb (firstBadMonth days) (days .months) ≡ false) × (leapJudged days before answered (numbered year days) ≡ answered sui)
+  lengths-pass : (ltb (firstBadMonth days) (days .months) ≡ false) × (leapMonthJudged days before answered (numbered year days) ≡ answered sui)
   unfolding suiOf lengthsJudged
-  lengths-pass = test-answered (ltb (firstBadMonth days) (days .months)) 10 (leapJudged days before answered (numbered year days)) sui accepted
+  lengths-pass = test-answered (ltb (firstBadMonth days) (days .months)) 10 (leapMonthJudged days before answered (numbered year days)) sui accepted
 
   leap-passes : (noneWithout days ≡ false) × (answered (numbered year days) ≡ answered sui)
-  unfolding leapJudged
+  unfolding leapMonthJudged
   leap-passes = test-answered (noneWithout days) 11 (answered (numbered year days)) sui (lengths-pass .1)
 
   pub no-bad-month : ltb (firstBadMonth days) (days .months) ≡ false
