@@ -369,6 +369,7 @@ static double now(void) {
     return t.tv_sec + t.tv_nsec * 1e-9;
 }
 
+#ifndef PARTS /* bench/sui.c takes what stands above */
 static int64_t words[MOST_WORDS], out[5][2 * MOST_MARKS];
 
 typedef int64_t entry(bool, int64_t, const int64_t *, size_t, int64_t *, size_t);
@@ -514,3 +515,4 @@ int main(int arguments, char **argument) {
         if (made(shape % 2, shape / 2)) return 1;
     return 0;
 }
+#endif
