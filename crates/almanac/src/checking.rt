@@ -29,6 +29,34 @@ fn month_words() -> [i64; 4992]
     [0; 4992]
 }
 
+// Whether the content of a file of these counts is lawful, given its leap entries and suis.
+fn lawful_with_suis(file: &[u8], n: Counts, leap: &[i64], suis: &[i64]) -> bool
+    requires { ⌜ endAt (n .entries) (n .suis) (n .months) ≤ length (now file) ⌝ }
+    requires { ⌜ n .months ≤ 1664 ⌝ }
+    requires { ⌜ now leap ≡ contentAt (now file) n .leap ⌝ }
+    requires { ⌜ now suis ≡ contentAt (now file) n .suis ⌝ }
+    ensures { λ r. ⌜ r ≡ lawful (contentAt (now (file .entry)) n) ⌝ }
+{
+    let at = 4 + 8 * n.entries + 4 + 5 * n.suis + 4;
+    let mut months = month_words();
+    read_months(file, at, n.months, &mut months);
+    is_lawful(leap, suis, &months[..3 * n.months])
+}
+
+// .. given its leap entries.
+fn lawful_with_entries(file: &[u8], n: Counts, leap: &[i64]) -> bool
+    requires { ⌜ endAt (n .entries) (n .suis) (n .months) ≤ length (now file) ⌝ }
+    requires { ⌜ n .suis ≤ 128 ⌝ }
+    requires { ⌜ n .months ≤ 1664 ⌝ }
+    requires { ⌜ now leap ≡ contentAt (now file) n .leap ⌝ }
+    ensures { λ r. ⌜ r ≡ lawful (contentAt (now (file .entry)) n) ⌝ }
+{
+    let at = 4 + 8 * n.entries + 4;
+    let mut suis = sui_words();
+    read_suis(file, at, n.suis, &mut suis);
+    lawful_with_suis(file, n, leap, &suis[..2 * n.suis])
+}
+
 // Whether the content of a file of these counts is lawful.
 pub fn lawful_at(file: &[u8], n: Counts) -> bool
     requires { ⌜ endAt (n .entries) (n .suis) (n .months) ≤ length (now file) ⌝ }
@@ -45,15 +73,5 @@ pub fn lawful_at(file: &[u8], n: Counts) -> bool
     }
     let mut leap = entry_words();
     read_entries(file, 4, n.entries, &mut leap);
-    let second = 4 + 8 * n.entries;
-    let mut suis = sui_words();
-    read_suis(file, second + 4, n.suis, &mut suis);
-    let third = second + 4 + 5 * n.suis;
-    let mut months = month_words();
-    read_months(file, third + 4, n.months, &mut months);
-    is_lawful(
-        &leap[..2 * n.entries],
-        &suis[..2 * n.suis],
-        &months[..3 * n.months],
-    )
+    lawful_with_entries(file, n, &leap[..2 * n.entries])
 }

@@ -58,13 +58,7 @@ pub fn read_file(file: &[u8], leap: &mut [i64], suis: &mut [i64], months: &mut [
     match checked {
         FileAnswer::Refused(r) => FileAnswer::Refused(r),
         FileAnswer::File(n) => {
-            if leap.len() < 2 * n.entries {
-                return FileAnswer::Refused(refusals::ROOM);
-            }
-            if suis.len() < 2 * n.suis {
-                return FileAnswer::Refused(refusals::ROOM);
-            }
-            if months.len() < 3 * n.months {
+            if reading::too_short(n, leap.len(), suis.len(), months.len()) {
                 return FileAnswer::Refused(refusals::ROOM);
             }
             reading::read_all(file, n, leap, suis, months);

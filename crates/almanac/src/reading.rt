@@ -9,6 +9,7 @@ ghost use Prim.Native.Nat.{_+_, _*_, _≤_};
 ghost use lib.ListN.{length, drop};
 ghost use Rattle.almanac.specs.Fields.{times, numbersIn};
 ghost use Rattle.almanac.specs.Layout.{entryFields, suiFields, monthFields, endAt, contentAt};
+ghost use Rattle.almanac.specs.theory.Checked.{shortFor};
 
 // n leap entries: day and offset.
 pub fn read_entries(file: &[u8], at: usize, n: usize, out: &mut [i64])
@@ -54,6 +55,20 @@ pub fn read_months(file: &[u8], at: usize, n: usize, out: &mut [i64])
         out[3 * i + 2] = byte_at(file, here + 8);
         i += 1;
     }
+}
+
+// Whether a lent list is too short for its section.
+pub fn too_short(n: Counts, leap: usize, suis: usize, months: usize) -> bool
+    requires { ⌜ (n .entries ≤ 64) × ((n .suis ≤ 128) × (n .months ≤ 1664)) ⌝ }
+    ensures { λ r. ⌜ r ≡ shortFor n leap suis months ⌝ }
+{
+    if leap < 2 * n.entries {
+        return true;
+    }
+    if suis < 2 * n.suis {
+        return true;
+    }
+    months < 3 * n.months
 }
 
 // All three sections of a file of these counts.

@@ -1,9 +1,9 @@
 -- `almanac::read_file` meets its contract. Assumes nothing.
-use mathlib.Core.Path.{_≡_, refl, sym, ap, _∙_}
+use mathlib.Core.Path.{_≡_, sym, ap, _∙_}
 use native.Mathlib.Omega.{arith}
 use borrow.Author.Needs.{needs}
 use Rattle.almanac.specs.Answers.{paperFile}
-use Rattle.almanac.specs.theory.Reader.{checked, file-refused, leap-short, suis-short, months-short, all-read}
+use Rattle.almanac.specs.theory.Reader.{checked, file-refused, no-room, all-read, room-is}
 use Rattle.almanac.proofs.read_file.Statement.{statement}
 use Rattle.almanac.proofs.read_file.Tie as tie
 
@@ -16,37 +16,37 @@ enum-known-checked c = search needs
 enum-known-checked-2 : tie.Need-enum-known-checked-2
 enum-known-checked-2 c = search needs
 
-mul-if1 : tie.Need-mul-if1
-mul-if1 c = record { fits = omega (arith, checked _ _ (ap paperFile (sym (c .before .before .checked2 .given .1)) ∙ c .before .before .before .before .check-file .ensures) .entries-few) }
+too-short-requires : tie.Need-too-short-requires
+too-short-requires c κs =
+    let told = c .before in
+    let file = told .before .before in
+    let a = file .before .before .args in
+    let k = checked _ _ (ap paperFile (sym (told .checked2 .given .1)) ∙ file .check-file .ensures) in
+    (k .entries-few, (k .suis-few, k .months-few))
 
 returns : tie.Need-returns
 returns c =
-    let a = c .before .before .before .before .before .before .before .args in
-    leap-short (a .file .now) (a .leap .now) (a .suis .now) (a .months .now) _ (checked _ _ (ap paperFile (sym (c .before .before .before .checked2 .given .1)) ∙ c .before .before .before .before .before .check-file .ensures)) (c .if1 .taken)
+    let told = c .before .before .before in
+    let file = told .before .before in
+    let a = file .before .before .args in
+    let k = checked _ _ (ap paperFile (sym (told .checked2 .given .1)) ∙ file .check-file .ensures) in
+    no-room (a .file .now) (a .leap .now) (a .suis .now) (a .months .now) _ k (sym (c .before .too-short .ensures) ∙ c .if1 .taken)
 
-mul-if2 : tie.Need-mul-if2
-mul-if2 c = record { fits = omega (arith, checked _ _ (ap paperFile (sym (c .before .before .before .before .checked2 .given .1)) ∙ c .before .before .before .before .before .before .check-file .ensures) .suis-few) }
+read-all-requires : tie.Need-read-all-requires
+read-all-requires c κs =
+    let fits = c .before .before .before in
+    let told = fits .before .before .before in
+    let file = told .before .before in
+    let a = file .before .before .args in
+    let k = checked _ _ (ap paperFile (sym (told .checked2 .given .1)) ∙ file .check-file .ensures) in
+    (omega (arith, k .ends), room-is _ _ _ _ (sym (fits .before .too-short .ensures) ∙ fits .if1 .left))
 
 returns-2 : tie.Need-returns-2
 returns-2 c =
-    let a = c .before .before .before .before .before .before .before .before .before .args in
-    suis-short (a .file .now) (a .leap .now) (a .suis .now) (a .months .now) _ (checked _ _ (ap paperFile (sym (c .before .before .before .before .before .checked2 .given .1)) ∙ c .before .before .before .before .before .before .before .check-file .ensures)) (c .before .before .if1 .left) (c .if2 .taken)
-
-mul-if3 : tie.Need-mul-if3
-mul-if3 c = record { fits = omega (arith, checked _ _ (ap paperFile (sym (c .before .before .before .before .before .before .checked2 .given .1)) ∙ c .before .before .before .before .before .before .before .before .check-file .ensures) .months-few) }
-
-returns-3 : tie.Need-returns-3
-returns-3 c =
-    let a = c .before .before .before .before .before .before .before .before .before .before .before .args in
-    months-short (a .file .now) (a .leap .now) (a .suis .now) (a .months .now) _ (checked _ _ (ap paperFile (sym (c .before .before .before .before .before .before .before .checked2 .given .1)) ∙ c .before .before .before .before .before .before .before .before .before .check-file .ensures)) (c .before .before .before .before .if1 .left) (c .before .before .if2 .left) (c .if3 .taken)
-
-read-all-requires : tie.Need-read-all-requires
-read-all-requires c κs = (omega (arith, (checked _ _ (ap paperFile (sym (c .before .before .before .before .before .before .before .before .before .before .checked2 .given .1)) ∙ c .before .before .before .before .before .before .before .before .before .before .before .before .check-file .ensures)) .ends), (c .before .before .before .before .before .before .before .if1 .left, (c .before .before .before .before .before .if2 .left, c .before .before .before .if3 .left)))
-
-returns-4 : tie.Need-returns-4
-returns-4 c =
-    let a = c .before .before .before .before .before .args in
-    file-refused (a .file .now) (a .leap .now) (a .suis .now) (a .months .now) _ _ (ap paperFile (sym (c .before .checked .given .1)) ∙ c .before .before .before .check-file .ensures)
+    let told = c .before in
+    let file = told .before .before in
+    let a = file .before .before .args in
+    file-refused (a .file .now) (a .leap .now) (a .suis .now) (a .months .now) _ _ (ap paperFile (sym (told .checked .given .1)) ∙ file .check-file .ensures)
 
 same-length : tie.Need-same-length
 same-length c = search needs
@@ -57,12 +57,17 @@ same-length-2 c = search needs
 same-length-3 : tie.Need-same-length-3
 same-length-3 c = search needs
 
-returns-5 : tie.Need-returns-5
-returns-5 c =
-    let a = c .before .before .before .before .before .before .before .before .before .before .before .before .before .before .before .before .before .before .args in
-    let read = all-read (a .file .now) (a .leap .now) (a .suis .now) (a .months .now) _ (checked _ _ (ap paperFile (sym (c .before .before .before .before .before .before .before .before .before .before .before .before .before .before .checked2 .given .1)) ∙ c .before .before .before .before .before .before .before .before .before .before .before .before .before .before .before .before .check-file .ensures)) (c .before .before .before .before .before .before .before .before .before .before .before .if1 .left) (c .before .before .before .before .before .before .before .before .before .if2 .left) (c .before .before .before .before .before .before .before .if3 .left) in
-    let held = c .before .before .before .read-all .ensures in
-    (read .0, (held .0 ∙ read .1 .0, (held .1 .0 ∙ read .1 .1 .0, held .1 .1 ∙ read .1 .1 .1)))
+returns-3 : tie.Need-returns-3
+returns-3 c =
+    let read = c .before .before .before in
+    let fits = read .before .before .before .before in
+    let told = fits .before .before .before in
+    let file = told .before .before in
+    let a = file .before .before .args in
+    let k = checked _ _ (ap paperFile (sym (told .checked2 .given .1)) ∙ file .check-file .ensures) in
+    let promised = all-read (a .file .now) (a .leap .now) (a .suis .now) (a .months .now) _ k (sym (fits .before .too-short .ensures) ∙ fits .if1 .left) in
+    let held = read .read-all .ensures in
+    (promised .0, (held .0 ∙ promised .1 .0, (held .1 .0 ∙ promised .1 .1 .0, held .1 .1 ∙ promised .1 .1 .1)))
 
 pub read-file-spec : {M : Type 1} → statement M
 read-file-spec =
@@ -71,15 +76,11 @@ read-file-spec =
     check-file-requires
     enum-known-checked
     enum-known-checked-2
-    mul-if1
+    too-short-requires
     returns
-    mul-if2
-    returns-2
-    mul-if3
-    returns-3
     read-all-requires
-    returns-4
+    returns-2
     same-length
     same-length-2
     same-length-3
-    returns-5)
+    returns-3)

@@ -4,13 +4,21 @@ use Prim.Native.Nat.{_+_, _*_}
 use native.Mathlib.Omega.{arith}
 use borrow.Author.Needs.{needs}
 use borrow.Author.Tests.{not-true, not-false}
+use mathlib.Core.Bool.{true}
 use Rattle.refusals.specs.Verdict.{answered}
-use Rattle.almanac.specs.Content.{content, entryCount, suiCount, monthCount}
+use Rattle.almanac.specs.Content.{Content, content, lawful, entryCount, suiCount, monthCount}
 use Rattle.almanac.specs.Layout.{endAt}
 use Rattle.almanac.specs.theory.Rules.{lawful-fits}
 use Rattle.almanac.specs.theory.Writer.{not-lawful, no-room, all-written}
 use Rattle.almanac.proofs.write_file.Statement.{statement}
 use Rattle.almanac.proofs.write_file.Tie as tie
+
+-- once the content is judged: `judged` is the place where it is lawful
+abbrev content-of : tie.Start → Content
+content-of start = let a = start .args in content (a .leap .now) (a .suis .now) (a .months .now)
+
+is-lawful : (judged : tie.Else1) → lawful (content-of (judged .before .before .before)) ≡ true
+is-lawful judged = let judge = judged .before in sym (judge .is-lawful .ensures) ∙ not-false (judge .is-lawful .result) (judged .if1 .left)
 
 is-lawful-requires : tie.Need-is-lawful-requires
 is-lawful-requires c κs = search needs
@@ -43,24 +51,29 @@ add-end-2 c = search needs
 
 returns-2 : tie.Need-returns-2
 returns-2 c =
-    let a = c .before .before .before .before .args in
-    no-room (content (a .leap .now) (a .suis .now) (a .months .now)) (a .file .now) (sym (c .before .before .is-lawful .ensures) ∙ not-false (c .before .before .is-lawful .result) (c .before .if1 .left)) (omega (arith, c .if2 .taken))
+    let judged = c .before in
+    let start = judged .before .before .before in
+    no-room (content-of start) (start .args .file .now) (is-lawful judged) (omega (arith, c .if2 .taken))
 
 put-content-requires : tie.Need-put-content-requires
 put-content-requires c κs =
-    let a = c .before .before .before .before .before .args in
-    (lawful-fits (content (a .leap .now) (a .suis .now) (a .months .now)) (sym (c .before .before .before .is-lawful .ensures) ∙ not-false (c .before .before .before .is-lawful .result) (c .before .before .if1 .left)), omega (arith, c .before .if2 .left))
+    let fits = c .before in
+    let judged = fits .before in
+    (lawful-fits (content-of (judged .before .before .before)) (is-lawful judged), omega (arith, fits .if2 .left))
 
 same-length : tie.Need-same-length
 same-length c = search needs
 
 returns-3 : tie.Need-returns-3
 returns-3 c =
-    let a = c .before .before .before .before .before .before .before .before .args in
-    let n = content (a .leap .now) (a .suis .now) (a .months .now) in
-    let written = all-written n (a .file .now) (sym (c .before .before .before .before .before .before .is-lawful .ensures) ∙ not-false (c .before .before .before .before .before .before .is-lawful .result) (c .before .before .before .before .before .if1 .left)) (omega (arith, c .before .before .before .before .if2 .left)) in
+    let put = c .before .before in
+    let fits = put .before .before in
+    let judged = fits .before in
+    let start = judged .before .before .before in
+    let n = content-of start in
+    let written = all-written n (start .args .file .now) (is-lawful judged) (omega (arith, fits .if2 .left)) in
     let ends : 8 + 8 * entryCount n + 5 * suiCount n + 4 + 9 * monthCount n ≡ endAt (entryCount n) (suiCount n) (monthCount n) = omega arith in
-    (ap answered ends ∙ written .0, c .before .before .put-content .ensures ∙ written .1)
+    (ap answered ends ∙ written .0, put .put-content .ensures ∙ written .1)
 
 pub write-file-spec : {M : Type 1} → statement M
 write-file-spec =

@@ -1,10 +1,11 @@
 -- Checking a file: what its counts and its content say together. Assumes nothing.
 use mathlib.Core.Path.{_≡_, refl, sym, ap, _∙_}
-use mathlib.Core.Bool.{Bool, true, false}
+use mathlib.Core.Bool.{Bool, true, false, _||_}
 use mathlib.Core.List.{List, _++_}
 use Prim.Native.Nat.{ℕ, _+_, _*_, _/_, _≤_, _<_}
 use native.Mathlib.Omega.{arith}
 use native.Mathlib.Nat.{mul-div-cancel-left}
+use lib.Dec.{ltb}
 use lib.IntN.{ℤ}
 use lib.ListN.{length, take, drop}
 use lib.Seq.{take-at}
@@ -17,6 +18,10 @@ use Rattle.almanac.specs.Layout.{entryFields, suiFields, monthFields, su
 use Rattle.almanac.specs.Answers.{countsIn, checkedFile}
 use Rattle.almanac.specs.theory.FieldLaws.{numbers-length, length-times}
 use Rattle.almanac.specs.theory.Rules.{Rules, rules, few-suis, months-few}
+
+-- ---- which lent list is too short for its section
+abbrev pub shortFor : Counts → ℕ → ℕ → ℕ → Bool
+shortFor n leap suis months = ltb leap (2 * n .entries) || (ltb suis (2 * n .suis) || ltb months (3 * n .months))
 
 -- ---- the words that were read stand at the front
 pub section-words : (n : ℕ) (fields : List Field) (file : List ℕ) (at : ℕ) → length (numbersIn (times n fields) file at) ≡ length fields * n
@@ -52,8 +57,19 @@ module _ (file : List ℕ) (n : Counts) where
   same-counts = λ t. record { entries = entry-count t; suis = sui-count t; months = month-count t }
 
   -- ---- what was read is the content
-  pub judged-at : (leap suis months : List ℤ) → leap ≡ numbersIn (times (n .entries) entryFields) file 4 → suis ≡ numbersIn (times (n .suis) suiFields) file (suisAt (n .entries) + 4) → months ≡ numbersIn (times (n .months) monthFields) file (monthsAt (n .entries) (n .suis) + 4) → lawful (content leap suis months) ≡ lawful (contentAt file n)
+  pub leap-read : (rest last : List ℤ) → last ≡ numbersIn (times (n .entries) entryFields) file 4 ++ drop (2 * n .entries) rest → take (2 * n .entries) last ≡ contentAt file n .leap
   unfolding contentAt
+  leap-read rest last = section-read (n .entries) (2 * n .entries) entryFields file 4 rest last refl
+
+  pub suis-read : (rest last : List ℤ) → last ≡ numbersIn (times (n .suis) suiFields) file (suisAt (n .entries) + 4) ++ drop (2 * n .suis) rest → take (2 * n .suis) last ≡ contentAt file n .suis
+  unfolding contentAt
+  suis-read rest last = section-read (n .suis) (2 * n .suis) suiFields file (suisAt (n .entries) + 4) rest last refl
+
+  pub months-read : (rest last : List ℤ) → last ≡ numbersIn (times (n .months) monthFields) file (monthsAt (n .entries) (n .suis) + 4) ++ drop (3 * n .months) rest → take (3 * n .months) last ≡ contentAt file n .months
+  unfolding contentAt
+  months-read rest last = section-read (n .months) (3 * n .months) monthFields file (monthsAt (n .entries) (n .suis) + 4) rest last refl
+
+  pub judged-at : (leap suis months : List ℤ) → leap ≡ contentAt file n .leap → suis ≡ contentAt file n .suis → months ≡ contentAt file n .months → lawful (content leap suis months) ≡ lawful (contentAt file n)
   judged-at leap suis months a b d = rw (a, b, d)
 
   -- ---- a lawful content is small

@@ -4,11 +4,13 @@ use mathlib.Core.Bool.{Bool, true, false}
 use mathlib.Core.List.{List, _++_}
 use Prim.Native.Nat.{ℕ, _+_, _*_, _≤_, _<_}
 use native.Mathlib.Omega.{arith}
-use borrow.Author.Tests.{lt-ltb, le-ltb}
+use borrow.Author.Tests.{ltb-false}
+use lib.Dec.{ltb}
 use lib.IntN.{ℤ}
 use lib.ListN.{length, drop}
-use Rattle.refusals.specs.Verdict.{Verdict, answered, refused, answers-apart, answer-or-refusal, then-answered, _then_}
+use Rattle.refusals.specs.Verdict.{Verdict, answered, refused, answers-apart, answer-or-refusal, then-answered, refuseWhen, _before_, _then_}
 use Rattle.refusals.specs.Lent.{writtenInto}
+use Rattle.whole.specs.Booleans.{neither}
 use Rattle.clock.specs.theory.Table.{few}
 use Rattle.almanac.specs.declared.Counts.{Counts}
 use Rattle.almanac.specs.Content.{Content, lawful, leap-words, sui-words, month-words}
@@ -17,7 +19,7 @@ use Rattle.almanac.specs.Answers.{countsIn, checkedFile, contentRead, re
 use Rattle.almanac.specs.Theorems as theorems
 use Rattle.almanac.specs.theory.Whole.{Found, found}
 use Rattle.almanac.specs.theory.Rules.{rules, few-suis, months-few}
-use Rattle.almanac.specs.theory.Checked.{entries-of, suis-of, months-of, entry-count, sui-count, month-count, same-counts}
+use Rattle.almanac.specs.theory.Checked.{shortFor, entries-of, suis-of, months-of, entry-count, sui-count, month-count, same-counts}
 
 -- ---- what a file that was checked is known to be
 pub record Checked (file : List ℕ) (n : Counts) : Type 0 where
@@ -66,23 +68,19 @@ module _ (file : List ℕ) (leap suis months : List ℤ) where
   file-refused number segment e = promises (refused number segment) (rw (refused-as (fileOf file) number segment e))
 
   module _ (n : Counts) (k : Checked file n) where
-    pub leap-short : length leap < 2 * n .entries → Promises (refused 12 0) leap suis months
+    room-decides : contentRead file (length leap) (length suis) (length months) ≡ (refuseWhen (shortFor n (length leap) (length suis) (length months)) 12 before answered (contentAt file n))
     unfolding contentRead
-    leap-short h = promises (refused 12 0) (rw (k .is, entries-of file n, lt-ltb (length leap) (2 * n .entries) h))
+    room-decides = rw (k .is, entries-of file n, suis-of file n, months-of file n)
 
-    module _ (leap-fits : 2 * n .entries ≤ length leap) where
-      pub suis-short : length suis < 2 * n .suis → Promises (refused 12 0) leap suis months
-      unfolding contentRead
-      suis-short h = promises (refused 12 0) (rw (k .is, entries-of file n, le-ltb (length leap) (2 * n .entries) leap-fits, suis-of file n, lt-ltb (length suis) (2 * n .suis) h))
+    pub no-room : shortFor n (length leap) (length suis) (length months) ≡ true → Promises (refused 12 0) leap suis months
+    no-room e = promises (refused 12 0) (room-decides ∙ (rw e))
 
-      module _ (suis-fit : 2 * n .suis ≤ length suis) where
-        pub months-short : length months < 3 * n .months → Promises (refused 12 0) leap suis months
-        unfolding contentRead
-        months-short h = promises (refused 12 0) (rw (k .is, entries-of file n, le-ltb (length leap) (2 * n .entries) leap-fits, suis-of file n, le-ltb (length suis) (2 * n .suis) suis-fit, months-of file n, lt-ltb (length months) (3 * n .months) h))
+    pub all-read : shortFor n (length leap) (length suis) (length months) ≡ false → Promises (answered n) (contentAt file n .leap ++ drop (2 * n .entries) leap) (contentAt file n .suis ++ drop (2 * n .suis) suis) (contentAt file n .months ++ drop (3 * n .months) months)
+    all-read e = rw (same-counts file n, entries-of file n, suis-of file n, months-of file n) at (promises (answered (contentAt file n)) (room-decides ∙ (rw e)))
 
-        content-read : 3 * n .months ≤ length months → contentRead file (length leap) (length suis) (length months) ≡ answered (contentAt file n)
-        unfolding contentRead
-        content-read h = rw (k .is, entries-of file n, le-ltb (length leap) (2 * n .entries) leap-fits, suis-of file n, le-ltb (length suis) (2 * n .suis) suis-fit, months-of file n, le-ltb (length months) (3 * n .months) h)
-
-        pub all-read : 3 * n .months ≤ length months → Promises (answered n) (contentAt file n .leap ++ drop (2 * n .entries) leap) (contentAt file n .suis ++ drop (2 * n .suis) suis) (contentAt file n .months ++ drop (3 * n .months) months)
-        all-read h = rw (same-counts file n, entries-of file n, suis-of file n, months-of file n) at (promises (answered (contentAt file n)) (content-read h))
+-- where none is too short, each has the room of its section
+pub room-is : (n : Counts) (leap suis months : ℕ) → shortFor n leap suis months ≡ false → (2 * n .entries ≤ leap) × ((2 * n .suis ≤ suis) × (3 * n .months ≤ months))
+room-is n leap suis months e =
+    let a = neither (ltb leap (2 * n .entries)) _ e in
+    let b = neither (ltb suis (2 * n .suis)) _ (a .1) in
+    (ltb-false _ _ (a .0), (ltb-false _ _ (b .0), ltb-false _ _ (b .1)))

@@ -35,9 +35,12 @@ same-length c = search needs
 
 returns : tie.Need-returns
 returns c =
-    let start = c .before .before .before .before .before .before .before .before .before .before .before .before .before in
+    let third = c .before .before in
+    let second = third .before .before .before .before in
+    let first = second .before .before .before .before in
+    let start = first .before .before .before in
     let a = start .args in
-    content-placed (content (a .leap .now) (a .suis .now) (a .months .now)) (start .pre .0) (a .out .now) (start .pre .1) (c .before .before .before .before .before .before .before .before .before .before .entry-section .ensures) (c .before .before .before .before .before .before .sui-section .ensures) (c .before .before .month-section .ensures)
+    content-placed (content (a .leap .now) (a .suis .now) (a .months .now)) (start .pre .0) (a .out .now) (start .pre .1) (first .entry-section .ensures) (second .sui-section .ensures) (third .month-section .ensures)
 
 pub put-content-spec : {M : Type 1} → statement M
 put-content-spec =

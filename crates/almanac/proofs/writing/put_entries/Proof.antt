@@ -23,6 +23,10 @@ Inv-loop leap n out₀ at i₀ out i = (i ≤ n) × ((length out ≡ length out�
 abbrev μ-loop : tie.MeasureT-loop
 μ-loop leap n out₀ at i₀ out i = n - i
 
+-- as many words as n records have
+words-of : (start : tie.Start Inv-loop μ-loop) → length (start .args .leap .now) ≡ 2 * start .args .n
+words-of start = fit-length (times (start .args .n) entryFields) (start .args .leap .now) (start .pre .0) ∙ length-times (start .args .n) entryFields
+
 loop-holds : tie.Need-loop-holds Inv-loop μ-loop
 loop-holds c = (omega arith, (refl, write-none entryFields 2 refl (c .before .args .leap .now) (c .before .args .at) (c .before .args .out .now)))
 
@@ -39,7 +43,7 @@ mul-put-entry-3 : tie.Need-mul-put-entry-3 Inv-loop μ-loop
 mul-put-entry-3 c = search needs
 
 shared-slice-copy-out-put-entry : tie.Need-shared-slice-copy-out-put-entry Inv-loop μ-loop
-shared-slice-copy-out-put-entry c = omega (arith, c .before .loop-test .taken, fit-length (times (c .before .before .before .before .args .n) entryFields) (c .before .before .before .before .args .leap .now) (c .before .before .before .before .pre .0), length-times (c .before .before .before .before .args .n) entryFields)
+shared-slice-copy-out-put-entry c = omega (arith, c .before .loop-test .taken, words-of (c .before .before .before .before))
 
 mul-put-entry-4 : tie.Need-mul-put-entry-4 Inv-loop μ-loop
 mul-put-entry-4 c = search needs
@@ -51,7 +55,7 @@ mul-put-entry-5 : tie.Need-mul-put-entry-5 Inv-loop μ-loop
 mul-put-entry-5 c = search needs
 
 shared-slice-copy-out-put-entry-2 : tie.Need-shared-slice-copy-out-put-entry-2 Inv-loop μ-loop
-shared-slice-copy-out-put-entry-2 c = omega (arith, c .before .before .loop-test .taken, fit-length (times (c .before .before .before .before .before .args .n) entryFields) (c .before .before .before .before .before .args .leap .now) (c .before .before .before .before .before .pre .0), length-times (c .before .before .before .before .before .args .n) entryFields)
+shared-slice-copy-out-put-entry-2 c = omega (arith, c .before .before .loop-test .taken, words-of (c .before .before .before .before .before))
 
 put-entry-requires : tie.Need-put-entry-requires Inv-loop μ-loop
 put-entry-requires c κs =
@@ -76,15 +80,14 @@ loop-again c =
     let loop = turn .before in
     let start = loop .before .before in
     let i = loop .loop .i in
-    let size = fit-length (times (start .args .n) entryFields) (start .args .leap .now) (start .pre .0) ∙ length-times (start .args .n) entryFields in
     let f0 : SFits w64 (getD (start .args .leap .now) (2 * i) (pos 0)) = search needs in
     let f1 : SFits w64 (getD (start .args .leap .now) (2 * i + 1) (pos 0)) = search needs in
-    let part = two-of (start .args .leap .now) (2 * i) (omega (arith, turn .loop-test .taken, size)) in
+    let part = two-of (start .args .leap .now) (2 * i) (omega (arith, turn .loop-test .taken, words-of start)) in
     let put = rw (toZ-ofZ f0, toZ-ofZ f1) at (c .before .before .put-entry .ensures) in (
       omega (arith, turn .loop-test .taken),
       (
         search needs,
-        put ∙ write-turn entryFields 2 refl (start .args .leap .now) (start .args .at) (start .args .out .now) i (omega (arith, turn .loop-test .taken, size)) (omega (arith, turn .loop-test .taken, start .pre .1)) (loop .loop .inv .1 .1) _ part,
+        put ∙ write-turn entryFields 2 refl (start .args .leap .now) (start .args .at) (start .args .out .now) i (omega (arith, turn .loop-test .taken, words-of start)) (omega (arith, turn .loop-test .taken, start .pre .1)) (loop .loop .inv .1 .1) _ part,
       ),
     )
 

@@ -11,13 +11,17 @@ use Rattle.almanac.proofs.writing.put_entry.Statement.{statement}
 use Rattle.almanac.proofs.writing.put_entry.Tie as tie
 
 put4-requires : tie.Need-put4-requires
-put4-requires c κs = (search needs, rw (toZ-ofZ (c .before .before .fits .day)) (signed-fits (c .before .before .args .day) (c .before .before .pre .1 .0)))
+put4-requires c κs =
+    let start = c .before .before in
+    (search needs, rw (toZ-ofZ (start .fits .day)) (signed-fits (start .args .day) (start .pre .1 .0)))
 
 add-put4 : tie.Need-add-put4
 add-put4 c = search needs
 
 put4-requires-2 : tie.Need-put4-requires-2
-put4-requires-2 c κs = (search needs, rw (toZ-ofZ (c .before .before .before .before .before .before .fits .offset)) (counted-fits 4294967296 (c .before .before .before .before .before .before .args .offset) (c .before .before .before .before .before .before .pre .1 .1)))
+put4-requires-2 c κs =
+    let start = c .before .before .before .before .before .before in
+    (search needs, rw (toZ-ofZ (start .fits .offset)) (counted-fits 4294967296 (start .args .offset) (start .pre .1 .1)))
 
 same-length : tie.Need-same-length
 same-length c = search needs

@@ -23,6 +23,10 @@ Inv-loop months n out₀ at i₀ out i = (i ≤ n) × ((length out ≡ length ou
 abbrev μ-loop : tie.MeasureT-loop
 μ-loop months n out₀ at i₀ out i = n - i
 
+-- as many words as n records have
+words-of : (start : tie.Start Inv-loop μ-loop) → length (start .args .months .now) ≡ 3 * start .args .n
+words-of start = fit-length (times (start .args .n) monthFields) (start .args .months .now) (start .pre .0) ∙ length-times (start .args .n) monthFields
+
 loop-holds : tie.Need-loop-holds Inv-loop μ-loop
 loop-holds c = (omega arith, (refl, write-none monthFields 3 refl (c .before .args .months .now) (c .before .args .at) (c .before .args .out .now)))
 
@@ -38,11 +42,11 @@ mul-put-month-2 c = search needs
 mul-put-month-3 : tie.Need-mul-put-month-3 Inv-loop μ-loop
 mul-put-month-3 c =
     let start = c .before .before .before .before in
-    let inside : 3 * c .before .before .loop .i < length (start .args .months .now) = omega (arith, c .before .loop-test .taken, fit-length (times (start .args .n) monthFields) (start .args .months .now) (start .pre .0), length-times (start .args .n) monthFields) in
+    let inside : 3 * c .before .before .loop .i < length (start .args .months .now) = omega (arith, c .before .loop-test .taken, words-of start) in
     search needs
 
 shared-slice-copy-out-put-month : tie.Need-shared-slice-copy-out-put-month Inv-loop μ-loop
-shared-slice-copy-out-put-month c = omega (arith, c .before .loop-test .taken, fit-length (times (c .before .before .before .before .args .n) monthFields) (c .before .before .before .before .args .months .now) (c .before .before .before .before .pre .0), length-times (c .before .before .before .before .args .n) monthFields)
+shared-slice-copy-out-put-month c = omega (arith, c .before .loop-test .taken, words-of (c .before .before .before .before))
 
 mul-put-month-4 : tie.Need-mul-put-month-4 Inv-loop μ-loop
 mul-put-month-4 c = search needs
@@ -53,11 +57,11 @@ add-put-month-2 c = search needs
 mul-put-month-5 : tie.Need-mul-put-month-5 Inv-loop μ-loop
 mul-put-month-5 c =
     let start = c .before .before .before .before .before in
-    let inside : 3 * c .before .before .before .loop .i + 1 < length (start .args .months .now) = omega (arith, c .before .before .loop-test .taken, fit-length (times (start .args .n) monthFields) (start .args .months .now) (start .pre .0), length-times (start .args .n) monthFields) in
+    let inside : 3 * c .before .before .before .loop .i + 1 < length (start .args .months .now) = omega (arith, c .before .before .loop-test .taken, words-of start) in
     search needs
 
 shared-slice-copy-out-put-month-2 : tie.Need-shared-slice-copy-out-put-month-2 Inv-loop μ-loop
-shared-slice-copy-out-put-month-2 c = omega (arith, c .before .before .loop-test .taken, fit-length (times (c .before .before .before .before .before .args .n) monthFields) (c .before .before .before .before .before .args .months .now) (c .before .before .before .before .before .pre .0), length-times (c .before .before .before .before .before .args .n) monthFields)
+shared-slice-copy-out-put-month-2 c = omega (arith, c .before .before .loop-test .taken, words-of (c .before .before .before .before .before))
 
 mul-put-month-6 : tie.Need-mul-put-month-6 Inv-loop μ-loop
 mul-put-month-6 c = search needs
@@ -68,11 +72,11 @@ add-put-month-3 c = search needs
 mul-put-month-7 : tie.Need-mul-put-month-7 Inv-loop μ-loop
 mul-put-month-7 c =
     let start = c .before .before .before .before .before .before in
-    let inside : 3 * c .before .before .before .before .loop .i + 2 < length (start .args .months .now) = omega (arith, c .before .before .before .loop-test .taken, fit-length (times (start .args .n) monthFields) (start .args .months .now) (start .pre .0), length-times (start .args .n) monthFields) in
+    let inside : 3 * c .before .before .before .before .loop .i + 2 < length (start .args .months .now) = omega (arith, c .before .before .before .loop-test .taken, words-of start) in
     search needs
 
 shared-slice-copy-out-put-month-3 : tie.Need-shared-slice-copy-out-put-month-3 Inv-loop μ-loop
-shared-slice-copy-out-put-month-3 c = omega (arith, c .before .before .before .loop-test .taken, fit-length (times (c .before .before .before .before .before .before .args .n) monthFields) (c .before .before .before .before .before .before .args .months .now) (c .before .before .before .before .before .before .pre .0), length-times (c .before .before .before .before .before .before .args .n) monthFields)
+shared-slice-copy-out-put-month-3 c = omega (arith, c .before .before .before .loop-test .taken, words-of (c .before .before .before .before .before .before))
 
 put-month-requires : tie.Need-put-month-requires Inv-loop μ-loop
 put-month-requires c κs =
@@ -98,16 +102,15 @@ loop-again c =
     let loop = turn .before in
     let start = loop .before .before in
     let i = loop .loop .i in
-    let size = fit-length (times (start .args .n) monthFields) (start .args .months .now) (start .pre .0) ∙ length-times (start .args .n) monthFields in
     let f0 : SFits w64 (getD (start .args .months .now) (3 * i) (pos 0)) = search needs in
     let f1 : SFits w64 (getD (start .args .months .now) (3 * i + 1) (pos 0)) = search needs in
     let f2 : SFits w64 (getD (start .args .months .now) (3 * i + 2) (pos 0)) = search needs in
-    let part = three-of (start .args .months .now) (3 * i) (omega (arith, turn .loop-test .taken, size)) in
+    let part = three-of (start .args .months .now) (3 * i) (omega (arith, turn .loop-test .taken, words-of start)) in
     let put = rw (toZ-ofZ f0, toZ-ofZ f1, toZ-ofZ f2) at (c .before .before .put-month .ensures) in (
       omega (arith, turn .loop-test .taken),
       (
         search needs,
-        put ∙ write-turn monthFields 3 refl (start .args .months .now) (start .args .at) (start .args .out .now) i (omega (arith, turn .loop-test .taken, size)) (omega (arith, turn .loop-test .taken, start .pre .1)) (loop .loop .inv .1 .1) _ part,
+        put ∙ write-turn monthFields 3 refl (start .args .months .now) (start .args .at) (start .args .out .now) i (omega (arith, turn .loop-test .taken, words-of start)) (omega (arith, turn .loop-test .taken, start .pre .1)) (loop .loop .inv .1 .1) _ part,
       ),
     )
 

@@ -11,13 +11,17 @@ use Rattle.almanac.proofs.writing.put_sui.Statement.{statement}
 use Rattle.almanac.proofs.writing.put_sui.Tie as tie
 
 put4-requires : tie.Need-put4-requires
-put4-requires c κs = (search needs, rw (toZ-ofZ (c .before .before .fits .year)) (signed-fits (c .before .before .args .year) (c .before .before .pre .1 .0)))
+put4-requires c κs =
+    let start = c .before .before in
+    (search needs, rw (toZ-ofZ (start .fits .year)) (signed-fits (start .args .year) (start .pre .1 .0)))
 
 add-put-byte : tie.Need-add-put-byte
 add-put-byte c = search needs
 
 put-byte-requires : tie.Need-put-byte-requires
-put-byte-requires c κs = (search needs, rw (toZ-ofZ (c .before .before .before .before .before .before .fits .months)) (counted-fits 256 (c .before .before .before .before .before .before .args .months) (c .before .before .before .before .before .before .pre .1 .1)))
+put-byte-requires c κs =
+    let start = c .before .before .before .before .before .before in
+    (search needs, rw (toZ-ofZ (start .fits .months)) (counted-fits 256 (start .args .months) (start .pre .1 .1)))
 
 same-length : tie.Need-same-length
 same-length c = search needs

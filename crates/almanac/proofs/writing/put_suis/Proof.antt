@@ -23,6 +23,10 @@ Inv-loop suis n out₀ at i₀ out i = (i ≤ n) × ((length out ≡ length out�
 abbrev μ-loop : tie.MeasureT-loop
 μ-loop suis n out₀ at i₀ out i = n - i
 
+-- as many words as n records have
+words-of : (start : tie.Start Inv-loop μ-loop) → length (start .args .suis .now) ≡ 2 * start .args .n
+words-of start = fit-length (times (start .args .n) suiFields) (start .args .suis .now) (start .pre .0) ∙ length-times (start .args .n) suiFields
+
 loop-holds : tie.Need-loop-holds Inv-loop μ-loop
 loop-holds c = (omega arith, (refl, write-none suiFields 2 refl (c .before .args .suis .now) (c .before .args .at) (c .before .args .out .now)))
 
@@ -38,11 +42,11 @@ mul-put-sui-2 c = search needs
 mul-put-sui-3 : tie.Need-mul-put-sui-3 Inv-loop μ-loop
 mul-put-sui-3 c =
     let start = c .before .before .before .before in
-    let inside : 2 * c .before .before .loop .i < length (start .args .suis .now) = omega (arith, c .before .loop-test .taken, fit-length (times (start .args .n) suiFields) (start .args .suis .now) (start .pre .0), length-times (start .args .n) suiFields) in
+    let inside : 2 * c .before .before .loop .i < length (start .args .suis .now) = omega (arith, c .before .loop-test .taken, words-of start) in
     search needs
 
 shared-slice-copy-out-put-sui : tie.Need-shared-slice-copy-out-put-sui Inv-loop μ-loop
-shared-slice-copy-out-put-sui c = omega (arith, c .before .loop-test .taken, fit-length (times (c .before .before .before .before .args .n) suiFields) (c .before .before .before .before .args .suis .now) (c .before .before .before .before .pre .0), length-times (c .before .before .before .before .args .n) suiFields)
+shared-slice-copy-out-put-sui c = omega (arith, c .before .loop-test .taken, words-of (c .before .before .before .before))
 
 mul-put-sui-4 : tie.Need-mul-put-sui-4 Inv-loop μ-loop
 mul-put-sui-4 c = search needs
@@ -53,11 +57,11 @@ add-put-sui-2 c = search needs
 mul-put-sui-5 : tie.Need-mul-put-sui-5 Inv-loop μ-loop
 mul-put-sui-5 c =
     let start = c .before .before .before .before .before in
-    let inside : 2 * c .before .before .before .loop .i + 1 < length (start .args .suis .now) = omega (arith, c .before .before .loop-test .taken, fit-length (times (start .args .n) suiFields) (start .args .suis .now) (start .pre .0), length-times (start .args .n) suiFields) in
+    let inside : 2 * c .before .before .before .loop .i + 1 < length (start .args .suis .now) = omega (arith, c .before .before .loop-test .taken, words-of start) in
     search needs
 
 shared-slice-copy-out-put-sui-2 : tie.Need-shared-slice-copy-out-put-sui-2 Inv-loop μ-loop
-shared-slice-copy-out-put-sui-2 c = omega (arith, c .before .before .loop-test .taken, fit-length (times (c .before .before .before .before .before .args .n) suiFields) (c .before .before .before .before .before .args .suis .now) (c .before .before .before .before .before .pre .0), length-times (c .before .before .before .before .before .args .n) suiFields)
+shared-slice-copy-out-put-sui-2 c = omega (arith, c .before .before .loop-test .taken, words-of (c .before .before .before .before .before))
 
 put-sui-requires : tie.Need-put-sui-requires Inv-loop μ-loop
 put-sui-requires c κs =
@@ -82,15 +86,14 @@ loop-again c =
     let loop = turn .before in
     let start = loop .before .before in
     let i = loop .loop .i in
-    let size = fit-length (times (start .args .n) suiFields) (start .args .suis .now) (start .pre .0) ∙ length-times (start .args .n) suiFields in
     let f0 : SFits w64 (getD (start .args .suis .now) (2 * i) (pos 0)) = search needs in
     let f1 : SFits w64 (getD (start .args .suis .now) (2 * i + 1) (pos 0)) = search needs in
-    let part = two-of (start .args .suis .now) (2 * i) (omega (arith, turn .loop-test .taken, size)) in
+    let part = two-of (start .args .suis .now) (2 * i) (omega (arith, turn .loop-test .taken, words-of start)) in
     let put = rw (toZ-ofZ f0, toZ-ofZ f1) at (c .before .before .put-sui .ensures) in (
       omega (arith, turn .loop-test .taken),
       (
         search needs,
-        put ∙ write-turn suiFields 2 refl (start .args .suis .now) (start .args .at) (start .args .out .now) i (omega (arith, turn .loop-test .taken, size)) (omega (arith, turn .loop-test .taken, start .pre .1)) (loop .loop .inv .1 .1) _ part,
+        put ∙ write-turn suiFields 2 refl (start .args .suis .now) (start .args .at) (start .args .out .now) i (omega (arith, turn .loop-test .taken, words-of start)) (omega (arith, turn .loop-test .taken, start .pre .1)) (loop .loop .inv .1 .1) _ part,
       ),
     )
 
