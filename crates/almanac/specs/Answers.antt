@@ -43,11 +43,18 @@ unfoldable pub readFile : List ℕ → ℕ → ℕ → ℕ → Verdict Counts
 readFile file leap suis months = contentRead file leap suis months then (λ c. answered (countsIn c))
 
 -- ---- write a content into a lent file
+abbrev pub bytesInto : Content → ℕ → Verdict (List ℕ)
+bytesInto c room = refuseWhen (ltb room (length (bytesOf c))) 12 before answered (bytesOf c)
+
 unfoldable pub bytesToWrite : Content → ℕ → Verdict (List ℕ)
-bytesToWrite c room = refuseWhen (not (lawful c)) 13 before refuseWhen (ltb room (length (bytesOf c))) 12 before answered (bytesOf c)
+bytesToWrite c room = refuseWhen (not (lawful c)) 13 before bytesInto c room
 
 abbrev pub all-bytes : List ℕ → List ℕ
 all-bytes bytes = bytes
 
+-- how many bytes are written
+abbrev pub bytesCounted : Verdict (List ℕ) → Verdict ℕ
+bytesCounted v = v then (λ bytes. answered (length bytes))
+
 unfoldable pub writtenFile : Content → ℕ → Verdict ℕ
-writtenFile c room = bytesToWrite c room then (λ bytes. answered (length bytes))
+writtenFile c room = bytesCounted (bytesToWrite c room)

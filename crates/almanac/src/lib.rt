@@ -7,6 +7,7 @@ ghost use Rattle.almanac.specs.Content.{content, leap-words, sui-words, 
 ghost use Rattle.almanac.specs.Answers.{paperFile, paperWritten, checkedFile, contentRead, readFile, bytesToWrite, all-bytes, writtenFile};
 
 mod checking;
+pub mod inner;
 mod judging;
 mod layout;
 mod reading;
@@ -75,11 +76,5 @@ pub fn write_file(leap: &[i64], suis: &[i64], months: &[i64], file: &mut [u8]) -
     if !judging::is_lawful(leap, suis, months) {
         return WriteAnswer::Refused(refusals::LAYOUT);
     }
-    let third = 8 + 8 * (leap.len() / 2) + 5 * (suis.len() / 2);
-    let end = third + 4 + 9 * (months.len() / 3);
-    if file.len() < end {
-        return WriteAnswer::Refused(refusals::ROOM);
-    }
-    writing::put_content(leap, suis, months, file);
-    WriteAnswer::Written(end)
+    inner::write_lawful(leap, suis, months, file)
 }

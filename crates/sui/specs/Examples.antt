@@ -26,7 +26,7 @@ use Rattle.inputs.specs.Inputs.{inputs, inputsJudged}
 use Rattle.months.specs.declared.SuiDays.{SuiDays}
 use Rattle.months.specs.Months.{notAfter, byFirst, bySecond, isMissing, moonMissing, monthCount, twelveOrThirteen, daysFound, daysOf}
 use Rattle.months.specs.Limits.{yearInRange}
-use Rattle.sui.specs.Selected.{select}
+use Rattle.whole.specs.Selected.{select}
 use Rattle.sui.specs.Sui.{isSolstice, isZhongqi, isNewMoon, oneSolstice, newMoonDaysOf, solsticesOf, zhongqiDaysOf, daysByMarks, suiDays, suiFor}
 
 -- ---- how the examples are written

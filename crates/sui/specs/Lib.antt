@@ -1,4 +1,3 @@
-pub mod Selected
 pub mod Sui
 pub mod Examples
 pub mod Theorems

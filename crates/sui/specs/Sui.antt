@@ -16,7 +16,7 @@ use Rattle.months.specs.declared.SuiDays.{SuiDays}
 use Rattle.months.specs.declared.Sui.{Sui}
 use Rattle.months.specs.Months.{daysOf, suiOf}
 use Rattle.months.specs.Limits.{yearInRange}
-use Rattle.sui.specs.Selected.{select}
+use Rattle.whole.specs.Selected.{select}
 
 -- ---- which mark is which (document 01, "Marks")
 -- "Sun index modulo 24 (never negative): 18 is the winter solstice Z11; even indices are zhongqi."

@@ -23,7 +23,7 @@ use Rattle.months.specs.Theorems.{Meet, months-meet, thirteen-have-one-without}
 use Rattle.months.specs.theory.Suis.{IsSui}
 use Rattle.sui.specs.Sui.{newMoonDays, solsticesIn, zhongqiDays, oneSolstice, suiDays, suiFor}
 use Rattle.sui.specs.theory.Answered.{days-found, inputs-answered}
-use Rattle.sui.specs.theory.Counting.{by-small}
+use Rattle.turns.specs.theory.Counting.{by-small}
 use Rattle.sui.specs.theory.Solstices.{eve, solstice, solstices, solsticeDay, solsticesBy, one-circle-on, in-year-means, zhongqi-are}
 use Rattle.sui.specs.theory.Found.{this}
 use Rattle.sui.specs.theory.Apart.{new-moons-rise}

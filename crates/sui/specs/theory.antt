@@ -1,9 +1,5 @@
-pub mod Counting
-pub mod Turns
-pub mod Listed
 pub mod Solstices
 pub mod Found
-pub mod Searched
 pub mod Eves
 pub mod Answered
 pub mod Speed

@@ -1,10 +1,6 @@
 // The parts of finding the days of a sui: its solstices, zhongqi and new moons, each located by index.
-use super::turns::TurnList;
-use super::turns::day_of_turn;
-use super::turns::one_more;
-use super::turns::turns_by;
-use super::turns::turns_of;
-use dates::Date;
+use super::inner::eve;
+use super::inner::zhongqi_day;
 use months::DaysAnswer;
 use months::SuiDays;
 use months::inner::month_count;
@@ -15,6 +11,11 @@ use refusals::Check;
 use series::Body;
 use times::Day;
 use times::Second;
+use turns::inner::TurnList;
+use turns::inner::day_of_turn;
+use turns::inner::one_more;
+use turns::inner::turns_by;
+use turns::inner::turns_of;
 use whole::inner::add;
 use whole::inner::signed;
 use whole::inner::subtract;
@@ -29,28 +30,13 @@ ghost use Rattle.whole.specs.Tabulated.{tabulate};
 ghost use Rattle.series.specs.declared.Body.the-variants.{Sun, Moon};
 ghost use Rattle.series.specs.Series.{series};
 ghost use Rattle.marks.specs.Listed.{firstReached, lastReached};
-ghost use Rattle.inputs.specs.Inputs.{dayOfMark};
 ghost use Rattle.inputs.specs.Known.{Ready};
 ghost use Rattle.months.specs.Months.{daysOf};
 ghost use Rattle.months.specs.Answers.{daysAnswer};
-ghost use Rattle.sui.specs.theory.Listed.{turnDay, turnDays};
+ghost use Rattle.turns.specs.Listed.{turnDay, turnDays, turnsBy};
 ghost use Rattle.sui.specs.theory.Solstices.{eve};
-ghost use Rattle.sui.specs.theory.Found.{turnsBy, oneInEach, zhongqiFrom};
-ghost use Rattle.sui.specs.theory.Searched.{Searched};
-
-// The day before the first of January.
-pub fn eve(year: i64) -> Day
-    requires { ⌜ Within 3000 year ⌝ }
-    ensures { λ r. ⌜ r .0 ≡ eve year ⌝ }
-{
-    let january = Date {
-        year,
-        month: 1,
-        day: 1,
-    };
-    let first = dates::inner::day_number(january);
-    Day(subtract(first.0, 1))
-}
+ghost use Rattle.sui.specs.theory.Found.{oneInEach, zhongqiFrom};
+ghost use Rattle.turns.specs.Searched.{Searched};
 
 // Whether one solstice lies in the year before and one in the year, where so many lie before both.
 pub fn one_in_each(
@@ -76,23 +62,10 @@ pub fn one_in_each(
 }
 
 // The number of a day.
-fn number_of(day: Day) -> i64
+pub fn number_of(day: Day) -> i64
     ensures { λ r. ⌜ r ≡ day .0 ⌝ }
 {
     day.0
-}
-
-// The day of the i-th zhongqi from the solstice with this index on.
-fn zhongqi_day(leap: &[i64], start: Second, coefs: &[i64], zone: i64, index: i64, i: usize) -> i64
-    requires { ⌜ Ready (now leap) (series Sun (start .0) (now coefs)) ⌝ }
-    requires { ⌜ Within 1000 zone ⌝ }
-    requires { ⌜ firstReached (series Sun (start .0) (now coefs)) <ℤ index ⌝ }
-    requires { ⌜ (index +ℤ pos 24) ≤ℤ lastReached (series Sun (start .0) (now coefs)) ⌝ }
-    requires { ⌜ i < 13 ⌝ }
-    ensures { λ r. ⌜ r ≡ dayOfMark (now (leap .entry)) (series Sun (start .0) (now (coefs .entry))) zone (index +ℤ pos (2 * i)) .0 ⌝ }
-{
-    let mark = add(index, signed(2 * i));
-    number_of(inputs::inner::day_of_mark(leap, Body::Sun, start, coefs, mark, zone))
 }
 
 // The days of the thirteen zhongqi from the solstice with this index on.

@@ -11,7 +11,6 @@ ghost use Rattle.sui.specs.Sui.{suiFor};
 
 mod finding;
 pub mod inner;
-mod turns;
 
 // The months of sui `year`, by UTC+8 days.
 pub fn sui(

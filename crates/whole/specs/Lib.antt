@@ -14,6 +14,7 @@ pub mod Tests
 pub mod Below
 pub mod Counted
 pub mod Tabulated
+pub mod Selected
 pub mod Found
 pub mod Bounded
 pub mod Lent

@@ -15,7 +15,7 @@ use Rattle.words.specs.Words.{bytes4}
 use Rattle.almanac.specs.Content.{Content, entryCount, suiCount, monthCount, lawful}
 use Rattle.almanac.specs.Fields.{times, bytesFor}
 use Rattle.almanac.specs.Layout.{entryFields, suiFields, monthFields, suisAt, monthsAt, endAt, bytesOf}
-use Rattle.almanac.specs.Answers.{bytesToWrite, all-bytes, writtenFile}
+use Rattle.almanac.specs.Answers.{bytesInto, bytesToWrite, all-bytes, bytesCounted, writtenFile}
 use Rattle.almanac.specs.theory.Whole.{FitsLayout, suis-stand, months-stand, file-ends}
 use Rattle.almanac.specs.theory.Rules.{lawful-fits}
 
@@ -51,27 +51,33 @@ module _ (c : Content) (f : FitsLayout c) where
 
 -- ---- the two promises of the writer
 module _ (c : Content) (file : List ℕ) where
-  abbrev pub Promises : Verdict ℕ → List ℕ → Type 0
-  Promises v last = (v ≡ writtenFile c (length file)) × (last ≡ writtenInto (bytesToWrite c (length file)) all-bytes file)
+  -- by what is to be written, or why it is not
+  abbrev pub Promises : Verdict (List ℕ) → Verdict ℕ → List ℕ → Type 0
+  Promises bytes v last = (v ≡ bytesCounted bytes) × (last ≡ writtenInto bytes all-bytes file)
 
-  promises : (v : Verdict (List ℕ)) → bytesToWrite c (length file) ≡ v → Promises (v then (λ bytes. answered (length bytes))) (writtenInto v all-bytes file)
-  unfolding writtenFile
+  abbrev pub FilePromises : Verdict ℕ → List ℕ → Type 0
+  FilePromises v last = (v ≡ writtenFile c (length file)) × (last ≡ writtenInto (bytesToWrite c (length file)) all-bytes file)
+
+  pub not-lawful : lawful c ≡ false → FilePromises (refused 13 0) file
+  unfolding bytesToWrite writtenFile
+  not-lawful e = rw e (refl, refl)
+
+  -- a lawful content is written as it stands
+  pub is-lawful : lawful c ≡ true → {v : Verdict ℕ} {last : List ℕ} → Promises (bytesInto c (length file)) v last → FilePromises v last
+  unfolding bytesToWrite writtenFile
+  is-lawful l p = rw l p
+
+  promises : (v : Verdict (List ℕ)) → bytesInto c (length file) ≡ v → Promises (bytesInto c (length file)) (bytesCounted v) (writtenInto v all-bytes file)
   promises v e = rw e (refl, refl)
-
-  pub not-lawful : lawful c ≡ false → Promises (refused 13 0) file
-  unfolding bytesToWrite
-  not-lawful e = promises (refused 13 0) (rw e)
 
   module _ (l : lawful c ≡ true) where
     pub ends : length (bytesOf c) ≡ endAt (entryCount c) (suiCount c) (monthCount c)
     ends = bytes-end c (lawful-fits c l)
 
-    pub no-room : length file < endAt (entryCount c) (suiCount c) (monthCount c) → Promises (refused 12 0) file
-    unfolding bytesToWrite
-    no-room h = promises (refused 12 0) (rw (l, ends, lt-ltb (length file) (endAt (entryCount c) (suiCount c) (monthCount c)) h))
+    pub no-room : length file < endAt (entryCount c) (suiCount c) (monthCount c) → Promises (bytesInto c (length file)) (refused 12 0) file
+    no-room h = promises (refused 12 0) (rw (ends, lt-ltb (length file) (endAt (entryCount c) (suiCount c) (monthCount c)) h))
 
-    pub all-written : endAt (entryCount c) (suiCount c) (monthCount c) ≤ length file → Promises (answered (endAt (entryCount c) (suiCount c) (monthCount c))) (bytesOf c ++ drop (length (bytesOf c)) file)
-    unfolding bytesToWrite
+    pub all-written : endAt (entryCount c) (suiCount c) (monthCount c) ≤ length file → Promises (bytesInto c (length file)) (answered (endAt (entryCount c) (suiCount c) (monthCount c))) (bytesOf c ++ drop (length (bytesOf c)) file)
     all-written h =
-        let p = promises (answered (bytesOf c)) (rw (l, ends, le-ltb (length file) (endAt (entryCount c) (suiCount c) (monthCount c)) h)) in
+        let p = promises (answered (bytesOf c)) (rw (ends, le-ltb (length file) (endAt (entryCount c) (suiCount c) (monthCount c)) h)) in
         (ap answered (sym ends) ∙ p .0, p .1)

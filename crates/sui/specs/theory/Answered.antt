@@ -25,7 +25,7 @@ use Rattle.months.specs.declared.SuiDays.{SuiDays}
 use Rattle.months.specs.Months.{daysOf, suiOf}
 use Rattle.months.specs.Limits.{yearInRange}
 use Rattle.sui.specs.Sui.{newMoonDays, solsticesIn, zhongqiDays, oneSolstice, suiDays, suiFor, daysByMarks}
-use Rattle.sui.specs.theory.Listed.{turnIndexOf, turnsOf, turn-after, turn-by-last, turnDay}
+use Rattle.turns.specs.Listed.{turnIndexOf, turnsOf, turn-after, turn-by-last, turnDay}
 use Rattle.sui.specs.theory.Solstices.{new-moons-are}
 
 -- ---- the whole from its parts

@@ -25,10 +25,10 @@ use Rattle.marks.specs.Theorems.{located-crossing, later-marks-are-later}
 use Rattle.inputs.specs.Inputs.{Inputs, moon, dayOfMark}
 use Rattle.inputs.specs.Known.{Known}
 use Rattle.months.specs.Limits.{rising}
-use Rattle.sui.specs.Selected.{tabulate-cons}
+use Rattle.whole.specs.Selected.{tabulate-cons}
 use Rattle.sui.specs.Sui.{newMoonDays}
-use Rattle.sui.specs.theory.Turns.{gap}
-use Rattle.sui.specs.theory.Listed.{turnIndexOf, turnsOf, turn-after, turn-by-last, turnDay}
+use Rattle.turns.specs.Turns.{gap}
+use Rattle.turns.specs.Listed.{turnIndexOf, turnsOf, turn-after, turn-by-last, turnDay}
 use Rattle.sui.specs.theory.Solstices.{new-moons-are}
 use Rattle.sui.specs.theory.Speed.{rises-at-most-over}
 

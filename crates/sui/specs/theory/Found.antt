@@ -24,27 +24,23 @@ use Rattle.months.specs.declared.SuiDays.{SuiDays}
 use Rattle.months.specs.Months.{daysOf}
 use Rattle.months.specs.Limits.{yearInRange}
 use Rattle.sui.specs.Sui.{newMoonDays, solsticesIn, zhongqiDays, oneSolstice, suiDays, daysByMarks}
-use Rattle.sui.specs.theory.Counting.{by, by-small, by-later}
-use Rattle.sui.specs.theory.Listed.{turnIndexOf, turnsOf, turn-by-last, turnDay, turnDays, turn-days-rise}
+use Rattle.turns.specs.theory.Counting.{by-small, by-later}
+use Rattle.turns.specs.Listed.{turnIndexOf, turnsOf, turn-by-last, turnDay, turnDays, turn-days-rise, turnsBy}
 use Rattle.sui.specs.theory.Solstices.{eve, solstice, solsticesBy, one-circle-on, one-in-year, not-one-in-year, zhongqi-are, new-moons-are}
 
 module _ (leap : List ℤ) (s : Series) (zone : ℤ) where
-  -- how many turns have a day not after a day
-  abbrev pub turnsBy : ℤ → ℕ
-  turnsBy day = by (turnDay leap s zone) day (turnsOf s)
-
   -- the index of the solstice in the year before, where there is one in that year and one in the year
   abbrev pub oneInEach : ℤ → Bool
-  oneInEach year = eqb (turnsBy (eve year)) (turnsBy (eve (year -ℤ pos 1)) + 1) && eqb (turnsBy (eve (year +ℤ pos 1))) (turnsBy (eve (year -ℤ pos 1)) + 1 + 1)
+  oneInEach year = eqb (turnsBy leap s zone (eve year)) (turnsBy leap s zone (eve (year -ℤ pos 1)) + 1) && eqb (turnsBy leap s zone (eve (year +ℤ pos 1))) (turnsBy leap s zone (eve (year -ℤ pos 1)) + 1 + 1)
 
   unfoldable pub firstSolsticeOf : ℤ → Verdict ℤ
-  firstSolsticeOf year = cond (oneInEach year) (answered (turnIndexOf s (turnsBy (eve (year -ℤ pos 1))))) (refused 8 0)
+  firstSolsticeOf year = cond (oneInEach year) (answered (turnIndexOf s (turnsBy leap s zone (eve (year -ℤ pos 1))))) (refused 8 0)
 
   -- the thirteen zhongqi from an index on
   abbrev pub zhongqiFrom : ℤ → List ℤ
   zhongqiFrom j = tabulate (λ m. dayOfMark leap s zone (j +ℤ pos (2 * m)) .0) 13
 
-  pub found-when : (year : ℤ) → oneInEach year ≡ true → answered (turnIndexOf s (turnsBy (eve (year -ℤ pos 1)))) ≡ firstSolsticeOf year
+  pub found-when : (year : ℤ) → oneInEach year ≡ true → answered (turnIndexOf s (turnsBy leap s zone (eve (year -ℤ pos 1)))) ≡ firstSolsticeOf year
   unfolding firstSolsticeOf
   found-when year e = rw e
 

@@ -25,11 +25,11 @@ use Rattle.marks.specs.Marks.{Mark}
 use Rattle.marks.specs.Listed.{listedMarks, firstReached}
 use Rattle.inputs.specs.Inputs.{Inputs, sun, moon, dayOfMark}
 use Rattle.inputs.specs.Known.{Known}
-use Rattle.sui.specs.Selected.{select, select-both, map-tabulate, tabulate-same, Passing, selected}
+use Rattle.whole.specs.Selected.{select, select-both, map-tabulate, tabulate-same, Passing, selected}
 use Rattle.sui.specs.Sui.{isSolstice, isZhongqi, isNewMoon, dayIs, newMoonDays, solsticesIn, zhongqiDays, oneSolstice, solsticesOf, zhongqiDaysOf, newMoonDaysOf}
-use Rattle.sui.specs.theory.Counting.{Rises, by, by-small, split, is-by, is-after}
-use Rattle.sui.specs.theory.Turns.{isTurn, gap, at-place, is-turn}
-use Rattle.sui.specs.theory.Listed.{markOf, turnIndexOf, turnsOf, placeIn, turn-by-last, listed, nth, listed-is, place-listed, turns-listed, turnDay, turnDays, turn-days-rise}
+use Rattle.turns.specs.theory.Counting.{Rises, by, by-small, split, is-by, is-after}
+use Rattle.turns.specs.Turns.{isTurn, gap, at-place, is-turn}
+use Rattle.turns.specs.Listed.{markOf, turnIndexOf, turnsOf, placeIn, turn-by-last, listed, nth, listed-is, place-listed, turns-listed, turnDay, turnDays, turn-days-rise}
 
 -- ---- the day before the first of January
 abbrev pub eve : ℤ → ℤ

@@ -19,10 +19,10 @@ use Rattle.months.specs.Months.{byFirst, bySecond, moonMissing, monthCount, twe
 use Rattle.months.specs.Answers.{daysAnswer}
 use Rattle.months.specs.theory.Days.{days-missing, days-other-count, days-are-found, some-listed}
 use Rattle.months.specs.theory.Listed.{at-most-thirteen}
-use Rattle.sui.specs.declared.turns.TurnList.{TurnList}
-use Rattle.sui.specs.Selected.{tabulate-part}
-use Rattle.sui.specs.theory.Listed.{turnsOf, turnDay, turnDays}
-use Rattle.sui.specs.theory.Searched.{Searched}
+use Rattle.turns.specs.declared.inner.TurnList.{TurnList}
+use Rattle.whole.specs.Selected.{tabulate-part}
+use Rattle.turns.specs.Listed.{turnsOf, turnDay, turnDays}
+use Rattle.turns.specs.Searched.{Searched}
 use Rattle.sui.proofs.finding.days_from.Statement.{statement}
 use Rattle.sui.proofs.finding.days_from.Tie as tie
 use Rattle.sui.proofs.finding.days_from.Reads as reads
@@ -32,8 +32,8 @@ use Rattle.months.proofs.inner.month_count.Reads as month-count-reads
 use Rattle.sui.proofs.finding.moon_days.Reads as moon-days-reads
 use Rattle.months.proofs.inner.moon_missing.Reads as moon-missing-reads
 use Rattle.months.proofs.inner.twelve_or_thirteen.Reads as twelve-or-thirteen-reads
-use Rattle.sui.proofs.turns.turns_by.Reads as turns-by-reads
-use Rattle.sui.proofs.turns.turns_of.Reads as turns-of-reads
+use Rattle.turns.proofs.inner.turns_by.Reads as turns-by-reads
+use Rattle.turns.proofs.inner.turns_of.Reads as turns-of-reads
 
 abbrev called : lts.Claims
 called = (

@@ -14,14 +14,14 @@ use Rattle.whole.specs.Tabulated.{tabulate, tabulate-turn, drop-replicate}
 use Rattle.times.specs.declared.Day.{Day}
 use Rattle.series.specs.declared.Body.the-variants.{Moon}
 use Rattle.series.specs.Series.{series}
-use Rattle.sui.specs.theory.Listed.{turnDay}
-use Rattle.sui.specs.theory.Searched.{count-small}
+use Rattle.turns.specs.Listed.{turnDay}
+use Rattle.turns.specs.Searched.{count-small}
 use Rattle.sui.proofs.finding.moon_days.Statement.{statement}
 use Rattle.sui.proofs.finding.moon_days.Tie as tie
 use Rattle.sui.proofs.finding.moon_days.Reads as reads
 use Rattle.sui.proofs.finding.moon_days.Lts as lts
 use Rattle.sui.proofs.finding.number_of.Reads as number-of-reads
-use Rattle.sui.proofs.turns.day_of_turn.Reads as day-of-turn-reads
+use Rattle.turns.proofs.inner.day_of_turn.Reads as day-of-turn-reads
 
 abbrev Inv-loop : tie.InvT-loop
 Inv-loop leap start coefs zone turns from n days₀ i₀ days i = (i ≤ n) × (days ≡ tabulate (λ k. turnDay leap (series Moon (start .0) coefs) (toZ w64 zone) (from + k)) i ++ drop i (replicate 14 (pos 0)))

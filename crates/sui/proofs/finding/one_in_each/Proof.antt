@@ -14,15 +14,15 @@ use Rattle.whole.specs.Ranges.{fits, within, bounds, back}
 use Rattle.series.specs.declared.Body.the-variants.{Sun}
 use Rattle.series.specs.Series.{series}
 use Rattle.sui.specs.theory.Solstices.{eve}
-use Rattle.sui.specs.theory.Found.{turnsBy}
-use Rattle.sui.specs.theory.Searched.{by-small, count-small}
+use Rattle.turns.specs.Searched.{by-small, count-small}
 use Rattle.sui.proofs.finding.one_in_each.Statement.{statement}
 use Rattle.sui.proofs.finding.one_in_each.Tie as tie
 use Rattle.sui.proofs.finding.one_in_each.Reads as reads
 use Rattle.sui.proofs.finding.one_in_each.Lts as lts
-use Rattle.sui.proofs.finding.eve.Reads as eve-reads
-use Rattle.sui.proofs.turns.one_more.Reads as one-more-reads
+use Rattle.sui.proofs.inner.eve.Reads as eve-reads
+use Rattle.turns.proofs.inner.one_more.Reads as one-more-reads
 use Rattle.whole.proofs.inner.add.Reads as add-reads
+use Rattle.turns.specs.Listed.{turnsBy}
 
 abbrev called : lts.Claims
 called = (eve-reads.Asked, eve-reads.Learnt, one-more-reads.Asked, one-more-reads.Learnt, add-reads.Asked, add-reads.Learnt)

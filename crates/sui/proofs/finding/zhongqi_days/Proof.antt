@@ -17,7 +17,7 @@ use Rattle.sui.proofs.finding.zhongqi_days.Statement.{statement}
 use Rattle.sui.proofs.finding.zhongqi_days.Tie as tie
 use Rattle.sui.proofs.finding.zhongqi_days.Reads as reads
 use Rattle.sui.proofs.finding.zhongqi_days.Lts as lts
-use Rattle.sui.proofs.finding.zhongqi_day.Reads as zhongqi-day-reads
+use Rattle.sui.proofs.inner.zhongqi_day.Reads as zhongqi-day-reads
 
 -- the day of the i-th zhongqi
 abbrev dayAt : List ℤ → Series → ℤ → ℤ → ℕ → ℤ

@@ -18,23 +18,23 @@ use Rattle.months.specs.Months.{daysOf}
 use Rattle.months.specs.Answers.{daysAnswer}
 use Rattle.months.specs.theory.Kept.{year-small}
 use Rattle.refusals.specs.Verdict.{answered-then, refused-then}
-use Rattle.sui.specs.declared.turns.TurnList.{TurnList}
-use Rattle.sui.specs.theory.Listed.{turnIndexOf, turn-after, turnDays}
+use Rattle.turns.specs.declared.inner.TurnList.{TurnList}
+use Rattle.turns.specs.Listed.{turnIndexOf, turn-after, turnDays, turnsBy}
 use Rattle.sui.specs.theory.Solstices.{eve}
-use Rattle.sui.specs.theory.Found.{turnsBy, oneInEach, zhongqiFrom, found-when, missing-when, out-of-range, sui-days-are, two-listed, to-the-second}
-use Rattle.sui.specs.theory.Searched.{Searched, turn-fits, circles-small}
+use Rattle.sui.specs.theory.Found.{oneInEach, zhongqiFrom, found-when, missing-when, out-of-range, sui-days-are, two-listed, to-the-second}
+use Rattle.turns.specs.Searched.{Searched, turn-fits, circles-small}
 use Rattle.sui.proofs.inner.days_in.Statement.{statement}
 use Rattle.sui.proofs.inner.days_in.Tie as tie
 use Rattle.sui.proofs.inner.days_in.Reads as reads
 use Rattle.sui.proofs.inner.days_in.Lts as lts
 use Rattle.months.proofs.inner.no_days.Reads as no-days-reads
 use Rattle.sui.proofs.finding.days_from.Reads as days-from-reads
-use Rattle.sui.proofs.finding.eve.Reads as eve-reads
+use Rattle.sui.proofs.inner.eve.Reads as eve-reads
 use Rattle.sui.proofs.finding.one_in_each.Reads as one-in-each-reads
 use Rattle.sui.proofs.finding.zhongqi_days.Reads as zhongqi-days-reads
-use Rattle.sui.proofs.turns.turn_index.Reads as turn-index-reads
-use Rattle.sui.proofs.turns.turns_by.Reads as turns-by-reads
-use Rattle.sui.proofs.turns.turns_of.Reads as turns-of-reads
+use Rattle.turns.proofs.inner.turn_index.Reads as turn-index-reads
+use Rattle.turns.proofs.inner.turns_by.Reads as turns-by-reads
+use Rattle.turns.proofs.inner.turns_of.Reads as turns-of-reads
 use Rattle.whole.proofs.inner.in_range.Reads as in-range-reads
 use Rattle.whole.proofs.inner.subtract.Reads as subtract-reads
 

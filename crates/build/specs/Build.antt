@@ -1,0 +1,62 @@
+-- The file build (document 01, "Almanac file" and "Refusal numbers"): the suis of consecutive years, one after another, their records as the content of a file,
+-- and its bytes. Assumes nothing: these are definitions.
+use mathlib.Core.Bool.{not}
+use mathlib.Core.List.{List, [], _∷_, _++_}
+use Prim.Native.Nat.{ℕ, zero, suc}
+use lib.IntN.{ℤ, pos, natAbs, _+ℤ_}
+use lib.ListN.{take}
+use Rattle.whole.specs.Tests.{inRange}
+use Rattle.refusals.specs.Verdict.{Verdict, answered, refuseWhen, _before_, _then_}
+use Rattle.inputs.specs.Inputs.{Inputs, inputsJudged}
+use Rattle.months.specs.declared.Month.{Month}
+use Rattle.months.specs.declared.Sui.{Sui}
+use Rattle.months.specs.Months.{suiOf}
+use Rattle.sui.specs.Sui.{suiDays}
+use Rattle.almanac.specs.Content.{Content, content}
+use Rattle.almanac.specs.Answers.{bytesInto, bytesCounted}
+
+-- ---- "each sui in year order by 8 to 11"
+-- one sui of accepted inputs
+abbrev pub suiOfYear : Inputs → ℤ → ℤ → Verdict Sui
+suiOfYear i zone year = suiDays i zone year then suiOf year
+
+-- the first n from a year on: the first refusal wins
+unfoldable pub suisFrom : Inputs → ℤ → ℤ → ℕ → Verdict (List Sui)
+suisFrom i zone first zero = answered []
+suisFrom i zone first (suc n) = suisFrom i zone first n then λ suis. suiOfYear i zone (first +ℤ pos n) then λ sui. answered (suis ++ (sui ∷ []))
+
+-- ---- their records, as the content of a file
+-- the months that a sui has: behind them its list is filled up
+abbrev pub monthsIn : Sui → List Month
+monthsIn sui = take (sui .count) (sui .months)
+
+unfoldable pub wordsOf : List Month → List ℤ
+wordsOf [] = []
+wordsOf (m ∷ months) = m .handle ∷ m .first ∷ m .length ∷ wordsOf months
+
+-- of suis from a year on: year and number of months of each
+unfoldable pub suiWords : ℤ → List Sui → List ℤ
+suiWords year [] = []
+suiWords year (sui ∷ suis) = year ∷ pos (sui .count) ∷ suiWords (year +ℤ pos 1) suis
+
+-- the months of each, one behind the other
+unfoldable pub monthWords : List Sui → List ℤ
+monthWords [] = []
+monthWords (sui ∷ suis) = wordsOf (monthsIn sui) ++ monthWords suis
+
+abbrev pub contentFor : List ℤ → ℤ → List Sui → Content
+contentFor leap first suis = content leap (suiWords first suis) (monthWords suis)
+
+unfoldable pub contentBuilt : Inputs → ℤ → ℤ → ℕ → Verdict Content
+contentBuilt i zone first n = suisFrom i zone first n then λ suis. answered (contentFor (i .leap) first suis)
+
+-- ---- the whole: 1; Sun 2 to 5; Moon 2 to 5; 7; "after 7 the count is judged, then each sui in year order by 8 to 11, then 12"
+unfoldable pub bytesBuilt : Inputs → ℤ → ℤ → ℤ → ℕ → Verdict (List ℕ)
+bytesBuilt i zone first count room =
+    inputsJudged i
+    before refuseWhen (not (inRange (pos 1) (pos 128) count)) 8
+    before (contentBuilt i zone first (natAbs count) then λ c. bytesInto c room)
+
+-- how many bytes it has
+unfoldable pub fileBuilt : Inputs → ℤ → ℤ → ℤ → ℕ → Verdict ℕ
+fileBuilt i zone first count room = bytesCounted (bytesBuilt i zone first count room)

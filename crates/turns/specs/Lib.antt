@@ -1,0 +1,4 @@
+pub mod theory
+pub mod Turns
+pub mod Listed
+pub mod Searched
