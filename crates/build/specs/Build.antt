@@ -10,16 +10,11 @@ use Rattle.refusals.specs.Verdict.{Verdict, answered, refuseWhen, _before_, _th
 use Rattle.inputs.specs.Inputs.{Inputs, inputsJudged}
 use Rattle.months.specs.declared.Month.{Month}
 use Rattle.months.specs.declared.Sui.{Sui}
-use Rattle.months.specs.Months.{suiOf}
-use Rattle.sui.specs.Sui.{suiDays}
+use Rattle.sui.specs.Sui.{suiOfYear}
 use Rattle.almanac.specs.Content.{Content, content}
 use Rattle.almanac.specs.Answers.{bytesInto, bytesCounted}
 
 -- ---- "each sui in year order by 8 to 11"
--- one sui of accepted inputs
-abbrev pub suiOfYear : Inputs → ℤ → ℤ → Verdict Sui
-suiOfYear i zone year = suiDays i zone year then suiOf year
-
 -- the first n from a year on: the first refusal wins
 unfoldable pub suisFrom : Inputs → ℤ → ℤ → ℕ → Verdict (List Sui)
 suisFrom i zone first zero = answered []

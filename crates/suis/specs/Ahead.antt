@@ -1,0 +1,55 @@
+-- What the walk from sui to sui holds: the days of turns ahead of a place, and where the first sui begins. Assumes nothing: these are definitions.
+use mathlib.Core.Path.{_≡_}
+use mathlib.Core.Bool.{Bool, cond, not, _&&_, _||_}
+use mathlib.Core.List.{List}
+use Prim.Native.Nat.{ℕ, _+_, _-_, _≤_, _<_}
+use lib.Dec.{eqb, leb, ltb}
+use lib.IntN.{ℤ, pos, _-ℤ_}
+use lib.ListN.{length, getD}
+use lib.Signed.{ltZ}
+use Rattle.whole.specs.Tabulated.{tabulate}
+use Rattle.refusals.specs.Verdict.{Verdict, answered, refused, refusal, refuseWhen, _before_}
+use Rattle.series.specs.Series.{Series}
+use Rattle.months.specs.Limits.{yearInRange}
+use Rattle.turns.specs.Listed.{turnDay, turnsBy, turnsOf}
+use Rattle.sui.specs.theory.Solstices.{eve}
+use Rattle.suis.specs.declared.inner.Places.{Places}
+use Rattle.suis.specs.declared.inner.BeginAnswer.{BeginAnswer}
+use Rattle.suis.specs.declared.inner.BeginAnswer.the-variants.{Begin, Refused}
+
+-- the days of consecutive turns from a place on; where there are fewer than so many, they are all that is left
+pub record Ahead (leap : List ℤ) (s : Series) (zone : ℤ) (from few : ℕ) (days : List ℤ) : Type 0 where
+  pub are-days : days ≡ tabulate (λ k. turnDay leap s zone (from + k)) (length days)
+  pub inside : from + length days ≤ turnsOf s
+  pub enough : length days < few → from + length days ≡ turnsOf s
+
+-- how many of so many there are from a place on
+unfoldable pub fewer : ℕ → ℕ → ℕ → ℕ
+fewer listed from most = cond (ltb (listed - from) most) (listed - from) most
+
+-- day j is not after `day`, and no further one is
+unfoldable pub oneMore : List ℤ → ℕ → ℤ → Bool
+oneMore days j day = ltb j (length days) && (not (ltZ day (getD days j (pos 0))) && (leb (length days) (j + 1) || ltZ day (getD days (j + 1) (pos 0))))
+
+-- a sui of more than thirteen months: 8 where no new moon is listed behind the second solstice, else 9
+unfoldable pub crowded : {A : Type 0} → ℕ → ℕ → Verdict A
+crowded listed by = cond (leb listed by) (refused 8 0) (refused 9 0)
+
+-- ---- where the first sui begins: its first solstice's place, and that of month 11's new moon
+abbrev pub paperBegin : BeginAnswer → Verdict Places
+paperBegin (Begin places) = answered places
+paperBegin (Refused r) = refusal r
+
+module _ (leap : List ℤ) (sun moon : Series) (zone year : ℤ) where
+  abbrev pub solsticesBefore : ℕ
+  solsticesBefore = turnsBy leap sun zone (eve (year -ℤ pos 1))
+
+  abbrev pub newMoonsBy : ℕ
+  newMoonsBy = turnsBy leap moon zone (turnDay leap sun zone solsticesBefore)
+
+  unfoldable pub begun : Verdict Places
+  begun =
+      refuseWhen (not (yearInRange year)) 8
+      before refuseWhen (leb (turnsOf sun) solsticesBefore) 8
+      before refuseWhen (eqb newMoonsBy 0) 8
+      before answered (record { solstice = solsticesBefore; newmoon = newMoonsBy - 1 })

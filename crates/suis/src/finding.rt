@@ -1,0 +1,203 @@
+// The parts of finding a sui's days in the days ahead of it: one solstice in each of two years, the zhongqi between them, the new moons from month 11 on.
+use months::DaysAnswer;
+use months::inner::days_of;
+use months::inner::no_days;
+use series::Body;
+use sui::inner::eve;
+use sui::inner::zhongqi_day;
+use times::Day;
+use times::Second;
+use turns::inner::TurnList;
+use turns::inner::turn_index;
+use turns::inner::turns_by;
+use whole::inner::add;
+use whole::inner::in_range;
+ghost use mathlib.Core.Path.{_≡_};
+ghost use mathlib.Core.Bool.{_&&_};
+ghost use Prim.Native.Nat.{_+_, _-_, _*_, _≤_, _<_};
+ghost use lib.IntN.{pos, _+ℤ_, _-ℤ_};
+ghost use lib.ListN.{length, getD};
+ghost use lib.Signed.{_≤ℤ_, _<ℤ_};
+ghost use Rattle.whole.specs.Ranges.{Within};
+ghost use Rattle.series.specs.declared.Body.the-variants.{Sun, Moon};
+ghost use Rattle.series.specs.Series.{series};
+ghost use Rattle.marks.specs.Listed.{firstReached, lastReached};
+ghost use Rattle.inputs.specs.Inputs.{inputs, dayOfMark};
+ghost use Rattle.inputs.specs.Known.{Known, Ready};
+ghost use Rattle.months.specs.Months.{daysOf};
+ghost use Rattle.months.specs.Answers.{daysAnswer};
+ghost use Rattle.turns.specs.Listed.{turnDay, turnDays, turnsBy, turnsOf};
+ghost use Rattle.turns.specs.Searched.{Searched};
+ghost use Rattle.sui.specs.Sui.{suiDays};
+ghost use Rattle.sui.specs.theory.Found.{zhongqiFrom};
+ghost use Rattle.sui.specs.theory.Solstices.{eve};
+ghost use Rattle.suis.specs.Ahead.{Ahead, oneMore, crowded};
+
+// Whether day j of the list is not after `day`, and no further one is.
+fn one_more(days: &[i64], j: usize, day: i64) -> bool
+    requires { ⌜ j < 100 ⌝ }
+    ensures { λ r. ⌜ r ≡ oneMore (now (days .entry)) j day ⌝ }
+{
+    if days.len() <= j {
+        return false;
+    }
+    if day < days[j] {
+        return false;
+    }
+    if days.len() <= j + 1 {
+        return true;
+    }
+    day < days[j + 1]
+}
+
+// Whether the first of the days is the one of the year before, and the second the one of the year.
+fn one_in_each(solstices: &[i64], year: i64) -> bool
+    requires { ⌜ Within 2500 year ⌝ }
+    ensures { λ r. ⌜ r ≡ (oneMore (now (solstices .entry)) 0 (eve year) && oneMore (now (solstices .entry)) 1 (eve (year +ℤ pos 1))) ⌝ }
+{
+    let last = eve(year);
+    if !one_more(solstices, 0, last.0) {
+        return false;
+    }
+    let next = eve(add(year, 1));
+    one_more(solstices, 1, next.0)
+}
+
+// The day of the i-th zhongqi from the solstice with this index on; the days of both solstices are known.
+fn zhongqi_between(
+    leap: &[i64],
+    start: Second,
+    coefs: &[i64],
+    zone: i64,
+    index: i64,
+    first: i64,
+    last: i64,
+    i: usize,
+) -> i64
+    requires { ⌜ Ready (now leap) (series Sun (start .0) (now coefs)) ⌝ }
+    requires { ⌜ Within 1000 zone ⌝ }
+    requires { ⌜ firstReached (series Sun (start .0) (now coefs)) <ℤ index ⌝ }
+    requires { ⌜ (index +ℤ pos 24) ≤ℤ lastReached (series Sun (start .0) (now coefs)) ⌝ }
+    requires { ⌜ first ≡ dayOfMark (now leap) (series Sun (start .0) (now coefs)) zone (index +ℤ pos (2 * 0)) .0 ⌝ }
+    requires { ⌜ last ≡ dayOfMark (now leap) (series Sun (start .0) (now coefs)) zone (index +ℤ pos (2 * 12)) .0 ⌝ }
+    requires { ⌜ i < 13 ⌝ }
+    ensures { λ r. ⌜ r ≡ dayOfMark (now (leap .entry)) (series Sun (start .0) (now (coefs .entry))) zone (index +ℤ pos (2 * i)) .0 ⌝ }
+{
+    if i == 0 {
+        return first;
+    }
+    if i == 12 {
+        return last;
+    }
+    zhongqi_day(leap, start, coefs, zone, index, i)
+}
+
+// The days of the thirteen zhongqi from one solstice to the next.
+fn zhongqi_days(
+    leap: &[i64],
+    start: Second,
+    coefs: &[i64],
+    zone: i64,
+    index: i64,
+    first: i64,
+    last: i64,
+) -> [i64; 13]
+    requires { ⌜ Ready (now leap) (series Sun (start .0) (now coefs)) ⌝ }
+    requires { ⌜ Within 1000 zone ⌝ }
+    requires { ⌜ firstReached (series Sun (start .0) (now coefs)) <ℤ index ⌝ }
+    requires { ⌜ (index +ℤ pos 24) ≤ℤ lastReached (series Sun (start .0) (now coefs)) ⌝ }
+    requires { ⌜ first ≡ dayOfMark (now leap) (series Sun (start .0) (now coefs)) zone (index +ℤ pos (2 * 0)) .0 ⌝ }
+    requires { ⌜ last ≡ dayOfMark (now leap) (series Sun (start .0) (now coefs)) zone (index +ℤ pos (2 * 12)) .0 ⌝ }
+    ensures { λ r. ⌜ r ≡ zhongqiFrom (now (leap .entry)) (series Sun (start .0) (now (coefs .entry))) zone index ⌝ }
+{
+    let mut days: [i64; 13] = [0; 13];
+    let mut i: usize = 0;
+    while i < 13 {
+        days[i] = zhongqi_between(leap, start, coefs, zone, index, first, last, i);
+        i += 1;
+    }
+    days
+}
+
+// No days of a sui of more than thirteen months: 8 where no new moon lies behind the second solstice, else 9.
+fn too_many(
+    leap: &[i64],
+    start: Second,
+    coefs: &[i64],
+    zone: i64,
+    turns: TurnList,
+    last: i64,
+) -> DaysAnswer
+    requires { ⌜ Searched (now leap) (series Moon (start .0) (now coefs)) zone turns ⌝ }
+    ensures { λ r. ⌜ r ≡ daysAnswer (crowded (turnsOf (series Moon (start .0) (now (coefs .entry)))) (turnsBy (now (leap .entry)) (series Moon (start .0) (now (coefs .entry))) zone last)) ⌝ }
+{
+    let by = turns_by(leap, Body::Moon, start, coefs, zone, turns, Day(last));
+    let listed = turns.count;
+    if listed <= by {
+        return no_days(refusals::NO_SUI);
+    }
+    no_days(refusals::MONTH_COUNT)
+}
+
+// The days of the sui with these zhongqi days, by the days of the new moons from month 11 on: 14 of them tell, and one more that no month is left over.
+fn days_within(
+    leap: &[i64],
+    start: Second,
+    coefs: &[i64],
+    zone: i64,
+    turns: TurnList,
+    newmoons: &[i64],
+    zhongqi: [i64; 13],
+) -> DaysAnswer
+    requires { ⌜ Searched (now leap) (series Moon (start .0) (now coefs)) zone turns ⌝ }
+    requires { ⌜ (getD zhongqi 0 (pos 0)) ≤ℤ (getD zhongqi 12 (pos 0)) ⌝ }
+    requires { ⌜ 0 < turnsBy (now leap) (series Moon (start .0) (now coefs)) zone (getD zhongqi 0 (pos 0)) ⌝ }
+    requires { ⌜ Ahead (now leap) (series Moon (start .0) (now coefs)) zone (turnsBy (now leap) (series Moon (start .0) (now coefs)) zone (getD zhongqi 0 (pos 0)) - 1) 15 (now newmoons) ⌝ }
+    ensures { λ r. ⌜ r ≡ daysAnswer (daysOf (turnDays (now (leap .entry)) (series Moon (start .0) (now (coefs .entry))) zone) zhongqi) ⌝ }
+{
+    if newmoons.len() < 15 {
+        return days_of(newmoons, &zhongqi);
+    }
+    let last = zhongqi[12];
+    if newmoons[14] <= last {
+        return too_many(leap, start, coefs, zone, turns, last);
+    }
+    days_of(&newmoons[..15], &zhongqi)
+}
+
+// The days of the sui of a year whose first solstice stands at a place.
+pub fn days_after(
+    leap: &[i64],
+    sunstart: Second,
+    sun: &[i64],
+    moonstart: Second,
+    moon: &[i64],
+    zone: i64,
+    suns: TurnList,
+    moons: TurnList,
+    year: i64,
+    place: usize,
+    solstices: &[i64],
+    newmoons: &[i64],
+) -> DaysAnswer
+    requires { ⌜ Known (inputs (now leap) (sunstart .0) (now sun) (moonstart .0) (now moon)) ⌝ }
+    requires { ⌜ Searched (now leap) (series Sun (sunstart .0) (now sun)) zone suns ⌝ }
+    requires { ⌜ Searched (now leap) (series Moon (moonstart .0) (now moon)) zone moons ⌝ }
+    requires { ⌜ place ≡ turnsBy (now leap) (series Sun (sunstart .0) (now sun)) zone (eve (year -ℤ pos 1)) ⌝ }
+    requires { ⌜ Ahead (now leap) (series Sun (sunstart .0) (now sun)) zone place 3 (now solstices) ⌝ }
+    requires { ⌜ 0 < turnsBy (now leap) (series Moon (moonstart .0) (now moon)) zone (turnDay (now leap) (series Sun (sunstart .0) (now sun)) zone place) ⌝ }
+    requires { ⌜ Ahead (now leap) (series Moon (moonstart .0) (now moon)) zone (turnsBy (now leap) (series Moon (moonstart .0) (now moon)) zone (turnDay (now leap) (series Sun (sunstart .0) (now sun)) zone place) - 1) 15 (now newmoons) ⌝ }
+    ensures { λ r. ⌜ r ≡ daysAnswer (suiDays (inputs (now (leap .entry)) (sunstart .0) (now (sun .entry)) (moonstart .0) (now (moon .entry))) zone year) ⌝ }
+{
+    if !in_range(1700, 2500, year) {
+        return no_days(refusals::NO_SUI);
+    }
+    if !one_in_each(solstices, year) {
+        return no_days(refusals::NO_SUI);
+    }
+    let index = turn_index(Body::Sun, suns.first, place);
+    let first = solstices[0];
+    let last = solstices[1];
+    let zhongqi = zhongqi_days(leap, sunstart, sun, zone, index, first, last);
+    days_within(leap, moonstart, moon, zone, moons, newmoons, zhongqi)
+}

@@ -1,0 +1,149 @@
+// For builds of many suis: where the first one begins, the days ahead of it, and the sui of each year. The zone is in minutes.
+use super::finding::days_after;
+use months::SuiAnswer;
+use refusals::Check;
+use refusals::Refusal;
+use series::Body;
+use sui::inner::eve;
+use times::Second;
+use turns::inner::TurnList;
+use turns::inner::day_of_turn;
+use turns::inner::turns_by;
+use whole::inner::in_range;
+use whole::inner::subtract;
+ghost use mathlib.Core.Path.{_≡_};
+ghost use mathlib.Core.List.{_++_};
+ghost use Prim.Native.Nat.{_+_, _-_, _≤_, _<_};
+ghost use lib.IntN.{pos, _-ℤ_};
+ghost use lib.ListN.{length, drop};
+ghost use Rattle.whole.specs.Ranges.{Within};
+ghost use Rattle.whole.specs.Tabulated.{tabulate};
+ghost use Rattle.series.specs.declared.Body.the-variants.{Sun, Moon};
+ghost use Rattle.series.specs.Series.{series};
+ghost use Rattle.inputs.specs.Inputs.{inputs};
+ghost use Rattle.inputs.specs.Known.{Known};
+ghost use Rattle.months.specs.Answers.{suiAnswer};
+ghost use Rattle.turns.specs.Listed.{turnDay, turnsBy};
+ghost use Rattle.turns.specs.Searched.{Searched};
+ghost use Rattle.sui.specs.Sui.{suiOfYear};
+ghost use Rattle.sui.specs.theory.Solstices.{eve};
+ghost use Rattle.suis.specs.Ahead.{Ahead, paperBegin, begun, fewer};
+
+// The place of the first solstice of a sui among the Sun's, and of month 11's new moon among the Moon's.
+pub struct Places {
+    pub solstice: usize,
+    pub newmoon: usize,
+}
+
+pub enum BeginAnswer {
+    Begin(Places),
+    Refused(Refusal),
+}
+
+// Where the sui of a year begins; 8 where it cannot.
+pub fn begin(
+    leap: &[i64],
+    sunstart: Second,
+    sun: &[i64],
+    moonstart: Second,
+    moon: &[i64],
+    zone: i64,
+    suns: TurnList,
+    moons: TurnList,
+    year: i64,
+) -> BeginAnswer
+    requires { ⌜ Searched (now leap) (series Sun (sunstart .0) (now sun)) zone suns ⌝ }
+    requires { ⌜ Searched (now leap) (series Moon (moonstart .0) (now moon)) zone moons ⌝ }
+    ensures { λ r. ⌜ paperBegin r ≡ begun (now (leap .entry)) (series Sun (sunstart .0) (now (sun .entry))) (series Moon (moonstart .0) (now (moon .entry))) zone year ⌝ }
+{
+    if !in_range(1700, 2500, year) {
+        return BeginAnswer::Refused(refusals::NO_SUI);
+    }
+    let before = eve(subtract(year, 1));
+    let solstice = turns_by(leap, Body::Sun, sunstart, sun, zone, suns, before);
+    let listed = suns.count;
+    if listed <= solstice {
+        return BeginAnswer::Refused(refusals::NO_SUI);
+    }
+    let day = day_of_turn(leap, Body::Sun, sunstart, sun, zone, suns, solstice);
+    let by = turns_by(leap, Body::Moon, moonstart, moon, zone, moons, day);
+    if by == 0 {
+        return BeginAnswer::Refused(refusals::NO_SUI);
+    }
+    BeginAnswer::Begin(Places {
+        solstice,
+        newmoon: by - 1,
+    })
+}
+
+// So many places, or as many as are left from a place on.
+pub fn fewer(listed: usize, from: usize, most: usize) -> usize
+    requires { ⌜ from ≤ listed ⌝ }
+    ensures { λ r. ⌜ r ≡ fewer listed from most ⌝ }
+{
+    let left = listed - from;
+    if left < most {
+        return left;
+    }
+    most
+}
+
+// The days of n turns from a place on.
+pub fn days_ahead(
+    leap: &[i64],
+    body: Body,
+    start: Second,
+    coefs: &[i64],
+    zone: i64,
+    turns: TurnList,
+    from: usize,
+    n: usize,
+    out: &mut [i64],
+)
+    requires { ⌜ Searched (now leap) (series body (start .0) (now coefs)) zone turns ⌝ }
+    requires { ⌜ from + n ≤ turns .count ⌝ }
+    requires { ⌜ n ≤ length (now out) ⌝ }
+    ensures { λ _. ⌜ now (out .exit) ≡ tabulate (λ k. turnDay (now (leap .entry)) (series body (start .0) (now (coefs .entry))) zone (from + k)) n ++ drop n (now (out .entry)) ⌝ }
+{
+    let mut i: usize = 0;
+    while i < n {
+        let day = day_of_turn(leap, body, start, coefs, zone, turns, from + i);
+        let number = day.0;
+        out[i] = number;
+        i += 1;
+    }
+}
+
+// The sui of a year whose first solstice stands at a place, from the days of solstices and new moons ahead of it.
+pub fn sui_after(
+    leap: &[i64],
+    sunstart: Second,
+    sun: &[i64],
+    moonstart: Second,
+    moon: &[i64],
+    zone: i64,
+    suns: TurnList,
+    moons: TurnList,
+    year: i64,
+    place: usize,
+    solstices: &[i64],
+    newmoons: &[i64],
+) -> SuiAnswer
+    requires { ⌜ Known (inputs (now leap) (sunstart .0) (now sun) (moonstart .0) (now moon)) ⌝ }
+    requires { ⌜ Searched (now leap) (series Sun (sunstart .0) (now sun)) zone suns ⌝ }
+    requires { ⌜ Searched (now leap) (series Moon (moonstart .0) (now moon)) zone moons ⌝ }
+    requires { ⌜ place ≡ turnsBy (now leap) (series Sun (sunstart .0) (now sun)) zone (eve (year -ℤ pos 1)) ⌝ }
+    requires { ⌜ Ahead (now leap) (series Sun (sunstart .0) (now sun)) zone place 3 (now solstices) ⌝ }
+    requires { ⌜ 0 < turnsBy (now leap) (series Moon (moonstart .0) (now moon)) zone (turnDay (now leap) (series Sun (sunstart .0) (now sun)) zone place) ⌝ }
+    requires { ⌜ Ahead (now leap) (series Moon (moonstart .0) (now moon)) zone (turnsBy (now leap) (series Moon (moonstart .0) (now moon)) zone (turnDay (now leap) (series Sun (sunstart .0) (now sun)) zone place) - 1) 15 (now newmoons) ⌝ }
+    ensures { λ r. ⌜ r ≡ suiAnswer (suiOfYear (inputs (now (leap .entry)) (sunstart .0) (now (sun .entry)) (moonstart .0) (now (moon .entry))) zone year) ⌝ }
+{
+    let found = days_after(
+        leap, sunstart, sun, moonstart, moon, zone, suns, moons, year, place, solstices, newmoons,
+    );
+    let check = found.check;
+    if let Check::Refused(r) = check {
+        return months::inner::no_sui(r);
+    }
+    months::inner::sui_of(year, found.days)
+}
