@@ -1,2 +1,5 @@
 pub mod Words
 pub mod Years
+pub mod Records
+pub mod Dated
+pub mod Kept
