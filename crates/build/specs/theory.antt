@@ -3,3 +3,5 @@ pub mod Years
 pub mod Records
 pub mod Dated
 pub mod Kept
+pub mod Following
+pub mod Leaps
