@@ -5,3 +5,4 @@ pub mod Dated
 pub mod Kept
 pub mod Following
 pub mod Leaps
+pub mod Lawful
