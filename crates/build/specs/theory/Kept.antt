@@ -48,11 +48,6 @@ pub record KeptSui (year : ℤ) (sui : Sui) : Type 0 where
   pub first-dated : (place : ℕ) → place < sui .count → hasDate (month sui place .first) ≡ true
   pub last-dated : (place : ℕ) → place < sui .count → hasDate (month sui place .first +ℤ month sui place .length -ℤ pos 1) ≡ true
 
--- a sui has as many months as it says
-pub has-its-months : (year : ℤ) (days : SuiDays) {sui : Sui} → suiOf year days ≡ answered sui → sui .count ≤ length (sui .months)
-unfolding numbered
-has-its-months year days e = rw (← sui-is year days e) (omega (arith, length-append (tabulate (monthAt year days) (days .months)) (replicate (13 - days .months) noMonth), length-tabulate (monthAt year days) (days .months)))
-
 -- a month of the sui is 29 or 30 days
 length-good : (year : ℤ) (days : SuiDays) {sui : Sui} → suiOf year days ≡ answered sui → (place : ℕ) → place < sui .count → inRange (pos 29) (pos 30) (month sui place .length) ≡ true
 unfolding firstBadMonth badMonth goodLength monthLength monthAt monthOf

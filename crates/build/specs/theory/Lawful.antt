@@ -31,8 +31,8 @@ use Rattle.almanac.specs.theory.Judged.{first-start}
 use Rattle.build.specs.Build.{suiOfYear, suiWords, monthWords, contentFor}
 use Rattle.build.specs.theory.Words.{length-sui-words}
 use Rattle.build.specs.theory.Years.{SuisOf}
-use Rattle.build.specs.theory.Records.{suiAt, Whole, year-at, count-at, month-at, length-month-words}
-use Rattle.build.specs.theory.Kept.{KeptSui, kept, has-its-months}
+use Rattle.build.specs.theory.Records.{suiAt, Whole, suis-whole, none-before, months-more, year-at, count-at, month-at, length-month-words}
+use Rattle.build.specs.theory.Kept.{KeptSui, kept}
 use Rattle.build.specs.theory.Following.{next-follows}
 use Rattle.build.specs.theory.Leaps.{count-is, handle-good}
 
@@ -46,14 +46,6 @@ unfolding wholeSuis
 whole-suis words n e some few =
     let even : words % 2 ≡ 0 = omega arith in
     rw (eq-eqb (words % 2) 0 even, le-leb 2 words (omega arith), le-leb words 256 (omega arith))
-
-none-before : (suis : List ℤ) → monthsBefore suis 0 ≡ 0
-unfolding monthsBefore
-none-before suis = refl
-
-months-more : (suis : List ℤ) (j : ℕ) → monthsBefore suis (suc j) ≡ monthsBefore suis j + natAbs (countAt suis j)
-unfolding monthsBefore
-months-more suis j = refl
 
 -- a month begins where the one before it ends
 starts-behind : (months : List ℤ) (k : ℕ) (a b : Month) → monthAt months k ≡ a → monthAt months (suc k) ≡ b → a .first +ℤ a .length ≡ b .first → goodStart months (suc k) ≡ true
@@ -81,10 +73,7 @@ module _ (i : Inputs) (zone : ℤ) (known : Known i) (small : Within 1000 zone) 
   from j = monthsBefore words j
 
   whole : Whole suis
-  whole j h =
-      let all = s .all in
-      let made = then-answered (suiDays i zone (first +ℤ pos j)) (suiOf (first +ℤ pos j)) (suiAt suis j) (s .each j (omega arith) noSui) in
-      has-its-months (first +ℤ pos j) (made .0) (made .2)
+  whole = suis-whole i zone first n suis s
 
   module _ (j : ℕ) (h : j < n) where
     sui-kept : KeptSui (first +ℤ pos j) (suiAt suis j)

@@ -1,21 +1,29 @@
 -- What stands in the records of suis that were found: year and number of months of the j-th, and its months, behind those of the suis before it. Assumes nothing.
 use mathlib.Core.Path.{_≡_, refl, sym, ap, _∙_}
 use mathlib.Core.List.{List, [], _∷_, _++_}
-use Prim.Native.Nat.{ℕ, zero, suc, _+_, _*_, _≤_, _<_}
+use Prim.Native.Nat.{ℕ, zero, suc, _+_, _-_, _*_, _≤_, _<_}
 use native.Mathlib.Omega.{arith}
 use lib.IntN.{ℤ, pos, natAbs, _+ℤ_}
-use lib.ListN.{length, getD, take, length-append}
+use lib.ListN.{length, getD, take, replicate, length-append}
 use lib.Seq.{getD-take, getD-append-add, length-take-le}
 use Rattle.whole.specs.Distance.{next}
 use Rattle.whole.specs.Solver.{⇑, ring}
+use Rattle.whole.specs.Tabulated.{tabulate, length-tabulate}
+use Rattle.refusals.specs.Verdict.{answered, then-answered}
+use Rattle.inputs.specs.Inputs.{Inputs}
 use Rattle.months.specs.declared.Month.{Month}
+use Rattle.months.specs.declared.SuiDays.{SuiDays}
 use Rattle.months.specs.declared.Sui.{Sui}
 use Rattle.months.specs.Handles.{noMonth}
+use Rattle.months.specs.Months as Months
+use Rattle.months.specs.Months.{numbered, suiOf}
 use Rattle.months.specs.Answers.{noSui}
-use Rattle.months.specs.theory.Suis.{month}
+use Rattle.months.specs.theory.Suis.{month, sui-is}
+use Rattle.sui.specs.Sui.{suiDays}
 use Rattle.almanac.specs.Content.{yearAt, countAt, monthAt, monthsBefore}
 use Rattle.build.specs.Build.{monthsIn, wordsOf, suiWords, monthWords}
 use Rattle.build.specs.theory.Words.{length-words-of}
+use Rattle.build.specs.theory.Years.{SuisOf}
 
 -- the j-th of some suis
 abbrev pub suiAt : List Sui → ℕ → Sui
@@ -45,9 +53,13 @@ count-at first (sui ∷ suis) zero h = refl
 count-at first (sui ∷ suis) (suc j) h = count-behind first (pos (sui .count)) (suiWords (first +ℤ pos 1) suis) j ∙ count-at (first +ℤ pos 1) suis j (omega arith)
 
 -- ---- months
-none-before : (words : List ℤ) → monthsBefore words 0 ≡ 0
+pub none-before : (words : List ℤ) → monthsBefore words 0 ≡ 0
 unfolding monthsBefore
 none-before words = refl
+
+pub months-more : (words : List ℤ) (j : ℕ) → monthsBefore words (suc j) ≡ monthsBefore words j + natAbs (countAt words j)
+unfolding monthsBefore
+months-more words j = refl
 
 -- the months of more than one sui: those of the first, and those behind
 before-behind : (x y : ℤ) (words : List ℤ) (j : ℕ) → monthsBefore (x ∷ y ∷ words) (suc j) ≡ natAbs y + monthsBefore words j
@@ -74,9 +86,22 @@ month-behind months rest k =
     let d : 3 * (length months + k) + 2 ≡ length (wordsOf months) + (3 * k + 2) = omega arith in
     rw (d, b, a, getD-append-add (wordsOf months) rest (3 * k) (pos 0), getD-append-add (wordsOf months) rest (3 * k + 1) (pos 0), getD-append-add (wordsOf months) rest (3 * k + 2) (pos 0))
 
--- each sui has as many months as it says
+-- an answered sui has as many months as it says; so have those of consecutive years
+has-its-months : (year : ℤ) (days : SuiDays) {sui : Sui} → suiOf year days ≡ answered sui → sui .count ≤ length (sui .months)
+unfolding numbered
+has-its-months year days e =
+    rw (← sui-is year days e)
+    (omega (arith, length-append (tabulate (Months.monthAt year days) (days .months)) (replicate (13 - days .months) noMonth), length-tabulate (Months.monthAt year days) (days .months)))
+
 abbrev pub Whole : List Sui → Type 0
 Whole suis = (j : ℕ) → j < length suis → suiAt suis j .count ≤ length (suiAt suis j .months)
+
+pub suis-whole : (i : Inputs) (zone first : ℤ) (n : ℕ) (suis : List Sui) → SuisOf i zone first n suis → Whole suis
+suis-whole i zone first n suis s j h =
+    let all = s .all in
+    let year = first +ℤ pos j in
+    let made = then-answered (suiDays i zone year) (suiOf year) (suiAt suis j) (s .each j (omega arith) noSui) in
+    has-its-months year (made .0) (made .2)
 
 pub month-at : (first : ℤ) (suis : List Sui) → Whole suis → (j : ℕ) → j < length suis → (place : ℕ) → place < suiAt suis j .count → monthAt (monthWords suis) (monthsBefore (suiWords first suis) j + place) ≡ month (suiAt suis j) place
 unfolding suiWords monthWords
