@@ -1,8 +1,8 @@
 -- What is proved of the file build, over its definitions: what is built is lawful, it holds the sui of each year, the reader accepts it and reads that content;
 -- one result. Assumes nothing but what a statement says itself.
-use mathlib.Core.Path.{_≡_, refl, sym, ap, _∙_}
-use mathlib.Core.Bool.{true, false, not}
-use mathlib.Core.List.{List, [], _∷_}
+use mathlib.Core.Path.{_≡_, sym, ap, _∙_}
+use mathlib.Core.Bool.{true, not}
+use mathlib.Core.List.{List}
 use Prim.Native.Nat.{ℕ, _+_, _≤_, _<_}
 use native.Mathlib.Omega.{arith}
 use borrow.Author.Tests.{not-false}
@@ -15,7 +15,7 @@ use Rattle.whole.specs.Ranges.{Within}
 use Rattle.whole.specs.Tests.{inRange, in-range-says}
 use Rattle.refusals.specs.Verdict.{Verdict, answered, refuseWhen, _before_, _then_, then-answered, test-answered, answers-apart, one-result, one-content}
 use Rattle.refusals.specs.Lent.{writtenInto}
-use Rattle.inputs.specs.Inputs.{Inputs, inputsJudged, InputsAccepted}
+use Rattle.inputs.specs.Inputs.{Inputs, InputsAccepted}
 use Rattle.inputs.specs.Known.{Known}
 use Rattle.inputs.specs.Theorems.{known}
 use Rattle.months.specs.declared.Sui.{Sui}

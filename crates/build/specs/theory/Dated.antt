@@ -14,7 +14,7 @@ use Rattle.whole.specs.Tests.{in-range-says, says-in-range}
 use Rattle.dates.specs.Answers.{hasDate}
 use Rattle.inputs.specs.Inputs.{Inputs, moon}
 use Rattle.inputs.specs.Known.{Known}
-use Rattle.turns.specs.Listed.{turnsOf, turnDay, turnDays}
+use Rattle.turns.specs.Listed.{turnsOf, turnDay}
 use Rattle.sui.specs.Sui.{newMoonDays}
 use Rattle.sui.specs.theory.Answered.{turn-day-has-date}
 use Rattle.sui.specs.theory.Solstices.{new-moons-are}

@@ -1,7 +1,7 @@
 -- The sui of the next year begins where a sui ends: both days are the last new-moon day not after one solstice, which is the second of the one and the first of
 -- the other. Assumes nothing.
 use mathlib.Core.Path.{_≡_, sym, ap, _∙_}
-use mathlib.Core.List.{List, [], _∷_, append-nil}
+use mathlib.Core.List.{List, [], append-nil}
 use Prim.Native.Nat.{ℕ, _-_, _*_, _<_}
 use native.Mathlib.Omega.{arith}
 use lib.IntN.{ℤ, pos, _+ℤ_, _-ℤ_, +ℤ-idr}
@@ -11,9 +11,8 @@ use Rattle.refusals.specs.Verdict.{answered, then-answered, answers-apart}
 use Rattle.marks.specs.Marks.{Mark}
 use Rattle.inputs.specs.Inputs.{Inputs, sun, dayOfMark}
 use Rattle.inputs.specs.Known.{Known}
-use Rattle.months.specs.declared.SuiDays.{SuiDays}
 use Rattle.months.specs.declared.Sui.{Sui}
-use Rattle.months.specs.Months.{lastNotAfter, firstSolstice, secondSolstice, suiOf, suiIn}
+use Rattle.months.specs.Months.{lastNotAfter, suiOf, suiIn}
 use Rattle.months.specs.Theorems.{Meet, months-meet}
 use Rattle.months.specs.theory.Suis.{month}
 use Rattle.sui.specs.Sui.{newMoonDays, solsticesIn, zhongqiDays, oneSolstice, suiDays}

@@ -1,37 +1,33 @@
 -- The sui of a year keeps every rule of the file that speaks of one sui alone. Assumes nothing.
-use mathlib.Core.Path.{_≡_, refl, sym, ap, _∙_}
-use mathlib.Core.Bool.{true, false, not}
-use mathlib.Core.List.{List}
+use mathlib.Core.Path.{_≡_, sym, ap, _∙_}
+use mathlib.Core.Bool.{true}
 use Prim.Native.Nat.{ℕ, suc, _+_, _-_, _≤_, _<_}
 use native.Mathlib.Omega.{arith}
 use native.Mathlib.Numerals.{add-one}
 use borrow.Author.Tests.{ltb-false, not-false}
 use lib.IntN.{ℤ, pos, _+ℤ_, _-ℤ_}
-use lib.ListN.{length, getD, replicate, length-append}
+use lib.ListN.{length}
 use Rattle.whole.specs.Found.{firstBelow-before}
-use Rattle.whole.specs.Laws.{≤-trans}
 use Rattle.whole.specs.Parts.{ℤ-rules}
 use Rattle.whole.specs.Ranges.{Within}
-use Rattle.whole.specs.Tabulated.{tabulate, length-tabulate}
 use Rattle.whole.specs.Tests.{inRange, in-range-says}
 use Rattle.refusals.specs.Verdict.{answered, then-answered}
 use Rattle.dates.specs.Answers.{hasDate}
 use Rattle.inputs.specs.Inputs.{Inputs}
 use Rattle.inputs.specs.Known.{Known}
-use Rattle.months.specs.declared.Month.{Month}
 use Rattle.months.specs.declared.SuiDays.{SuiDays}
 use Rattle.months.specs.declared.Sui.{Sui}
-use Rattle.months.specs.Handles.{noMonth, handleAt, monthOf}
-use Rattle.months.specs.Months.{byFirst, bySecond, monthCount, monthFirst, monthLength, leapMonth, monthAt, numbered, goodLength, badMonth, firstBadMonth, suiOf, suiIn}
+use Rattle.months.specs.Handles.{handleAt, monthOf}
+use Rattle.months.specs.Months.{byFirst, monthCount, monthFirst, monthLength, leapMonth, monthAt, goodLength, badMonth, firstBadMonth, suiOf}
 use Rattle.months.specs.Limits.{yearInRange}
 use Rattle.months.specs.Theorems.{leap-month-stands}
 use Rattle.months.specs.theory.Days.{found-listed, found-months, found-twelve, found-first}
 use Rattle.months.specs.theory.Leap.{leap-of-others}
 use Rattle.months.specs.theory.Listed.{at-most-thirteen}
-use Rattle.months.specs.theory.Suis.{month, no-bad-month, sui-is, sui-count, month-is, handle-is, first-is, end-is}
+use Rattle.months.specs.theory.Suis.{month, no-bad-month, sui-count, month-is, handle-is, first-is, end-is}
 use Rattle.sui.specs.Sui.{newMoonDays, zhongqiDays, suiDays}
 use Rattle.sui.specs.Theorems.{thirteen-zhongqi, new-moon-days-rise}
-use Rattle.sui.specs.theory.Answered.{Found, days-found}
+use Rattle.sui.specs.theory.Answered.{days-found}
 use Rattle.build.specs.Build.{suiOfYear}
 use Rattle.build.specs.theory.Dated.{new-moons-dated, last-day-dated}
 

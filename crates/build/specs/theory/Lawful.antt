@@ -1,10 +1,9 @@
 -- The content of found suis keeps the rules of the file, rule by rule. Assumes nothing.
-use mathlib.Core.Path.{_≡_, refl, sym, ap, ap₂, _∙_}
+use mathlib.Core.Path.{_≡_, refl, sym, ap, _∙_}
 use mathlib.Core.Bool.{true}
 use mathlib.Core.List.{List, [], _∷_}
 use Prim.Native.Nat.{ℕ, zero, suc, _+_, _-_, _*_, _/_, _%_, _≤_, _<_}
 use native.Mathlib.Omega.{arith}
-use native.Mathlib.Nat.{mul-div-cancel-left}
 use borrow.Author.Tests.{eq-eqb, le-leb}
 use lib.IntN.{ℤ, pos, natAbs, _+ℤ_, _-ℤ_}
 use lib.ListN.{length}
@@ -15,20 +14,16 @@ use Rattle.whole.specs.Parts.{ℤ-rules}
 use Rattle.whole.specs.Ranges.{Within}
 use Rattle.whole.specs.Solver.{⇑, ring}
 use Rattle.whole.specs.Tests.{inRange, isExactly, says-in-range, says-exactly}
-use Rattle.refusals.specs.Verdict.{answered, then-answered}
 use Rattle.dates.specs.Answers.{hasDate}
-use Rattle.clock.specs.Leap.{leapLawful}
 use Rattle.inputs.specs.Inputs.{Inputs}
 use Rattle.inputs.specs.Known.{Known}
 use Rattle.months.specs.declared.Month.{Month}
 use Rattle.months.specs.declared.Sui.{Sui}
-use Rattle.months.specs.Months.{suiOf}
 use Rattle.months.specs.Answers.{noSui}
 use Rattle.months.specs.theory.Suis.{month}
-use Rattle.sui.specs.Sui.{suiDays}
-use Rattle.almanac.specs.Content.{Content, suiCount, yearAt, countAt, monthAt, monthsBefore, followsYear, goodSui, leapsBefore, goodHandle, goodStart, goodDays, goodMonth, goodMonths, goodSuiMonths, wholeSuis, lawful}
+use Rattle.almanac.specs.Content.{yearAt, countAt, monthAt, monthsBefore, followsYear, goodSui, leapsBefore, goodHandle, goodStart, goodDays, goodMonth, goodMonths, goodSuiMonths, wholeSuis, lawful}
 use Rattle.almanac.specs.theory.Judged.{first-start}
-use Rattle.build.specs.Build.{suiOfYear, suiWords, monthWords, contentFor}
+use Rattle.build.specs.Build.{suiWords, monthWords, contentFor}
 use Rattle.build.specs.theory.Words.{length-sui-words}
 use Rattle.build.specs.theory.Years.{SuisOf}
 use Rattle.build.specs.theory.Records.{suiAt, Whole, suis-whole, none-before, months-more, year-at, count-at, month-at, length-month-words}

@@ -3,7 +3,7 @@
 use mathlib.Core.Path.{_≡_, refl, sym, ap, ap₂, _∙_}
 use mathlib.Core.Bool.{Bool, true, false, _&&_, _||_}
 use mathlib.Core.List.{List, [], _∷_}
-use Prim.Native.Nat.{ℕ, zero, suc, _+_, _-_, _*_, _%_, _≤_, _<_}
+use Prim.Native.Nat.{ℕ, zero, suc, _+_, _-_, _*_, _≤_, _<_}
 use native.Mathlib.Omega.{arith}
 use native.Mathlib.Decide.{decLt}
 use borrow.Author.Tests.{eq-eqb, le-leb}
@@ -96,7 +96,7 @@ module _ {year : ℤ} {sui : Sui} (k : KeptSui year sui) where
         go : Dec (place < k .leap) → Dec (k .leap < place) → (12 ≤ sui .count) × (sui .count ≤ 13) → (0 < k .leap) × (k .leap ≤ 12)
             → (place ≤ k .leap → leapsBefore months from place ≡ 0) × (k .leap < place → leapsBefore months from place ≡ 1)
             → (isExactly (handleAt year 13 (place - leapsBefore months from place)) (month sui place .handle)
-              || (isExactly (pos 13) (pos (sui .count)) && (eqb (leapsBefore months from place) 0 && (leb 1 place && isExactly (handleAt year place place) (month sui place .handle))))) ≡ true
+            || (isExactly (pos 13) (pos (sui .count)) && (eqb (leapsBefore months from place) 0 && (leb 1 place && isExactly (handleAt year place place) (month sui place .handle))))) ≡ true
         go (yes l) d few leap leaps =
             let none = leaps .0 (omega arith) in
             let same : place - leapsBefore months from place ≡ place = omega arith in

@@ -4,7 +4,7 @@ use mathlib.Core.List.{List, [], _∷_, _++_}
 use Prim.Native.Nat.{ℕ, zero, suc, _+_, _-_, _*_, _≤_, _<_}
 use native.Mathlib.Omega.{arith}
 use lib.IntN.{ℤ, pos, natAbs, _+ℤ_}
-use lib.ListN.{length, getD, take, replicate, length-append}
+use lib.ListN.{length, getD, replicate, length-append}
 use lib.Seq.{getD-take, getD-append-add, length-take-le}
 use Rattle.whole.specs.Distance.{next}
 use Rattle.whole.specs.Solver.{⇑, ring}

@@ -2,13 +2,13 @@
 -- Assumes nothing.
 use mathlib.Core.Path.{_≡_, refl, sym, ap, _∙_}
 use mathlib.Core.List.{List, [], _∷_, _++_}
-use Prim.Native.Nat.{ℕ, zero, suc, _+_, _<_}
+use Prim.Native.Nat.{ℕ, zero, suc, _<_}
 use native.Mathlib.Omega.{arith}
 use lib.IntN.{ℤ, pos, _+ℤ_}
 use lib.ListN.{length, getD, length-append, List·getD-append}
 use lib.Seq.{getD-at}
 use Rattle.whole.specs.Below.{below}
-use Rattle.refusals.specs.Verdict.{Verdict, answered, refused, then-answered, answers-apart, _then_}
+use Rattle.refusals.specs.Verdict.{answered, refused, then-answered, answers-apart, _then_}
 use Rattle.inputs.specs.Inputs.{Inputs}
 use Rattle.months.specs.declared.Sui.{Sui}
 use Rattle.build.specs.Build.{suiOfYear, suisFrom}
