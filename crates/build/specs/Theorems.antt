@@ -1,9 +1,9 @@
--- What is proved of the file build, over its definitions: what is built is lawful, it holds the sui of each year, the reader accepts it and reads that content;
--- one result. Assumes nothing but what a statement says itself.
+-- What is proved of the file build, over its definitions: what is built is lawful, it holds the leap table and the sui of each year, the reader accepts it and
+-- reads that content; one result. Assumes nothing but what a statement says itself.
 use mathlib.Core.Path.{_≡_, sym, ap, _∙_}
 use mathlib.Core.Bool.{true, not}
 use mathlib.Core.List.{List}
-use Prim.Native.Nat.{ℕ, _+_, _≤_, _<_}
+use Prim.Native.Nat.{ℕ, _+_, _/_, _≤_, _<_}
 use native.Mathlib.Omega.{arith}
 use borrow.Author.Tests.{not-false}
 use lib.Dec.{ltb}
@@ -24,12 +24,13 @@ use Rattle.months.specs.theory.Suis.{month}
 use Rattle.sui.specs.Sui.{suiFor}
 use Rattle.sui.specs.theory.Answered.{inputs-answered}
 use Rattle.almanac.specs.declared.WriteAnswer.{WriteAnswer}
-use Rattle.almanac.specs.Content.{Content, yearAt, countAt, monthAt, monthsBefore, lawful}
+use Rattle.almanac.specs.Content.{Content, suiCount, yearAt, countAt, monthAt, monthsBefore, lawful}
 use Rattle.almanac.specs.Layout.{bytesOf, fileOf}
 use Rattle.almanac.specs.Answers.{paperWritten, bytesInto, all-bytes}
 use Rattle.almanac.specs.Theorems.{written-is-read}
 use Rattle.almanac.specs.OneResult.{written-apart}
-use Rattle.build.specs.Build.{suiOfYear, suisFrom, contentFor, contentBuilt, bytesBuilt, fileBuilt}
+use Rattle.build.specs.Build.{suiOfYear, suisFrom, suiWords, contentFor, contentBuilt, bytesBuilt, fileBuilt}
+use Rattle.build.specs.theory.Words.{length-sui-words}
 use Rattle.build.specs.theory.Years.{suis-are}
 use Rattle.build.specs.theory.Records.{suiAt, suis-whole, year-at, count-at, month-at}
 use Rattle.build.specs.theory.Lawful.{content-is-lawful}
@@ -47,7 +48,17 @@ built-is-lawful i zone k small first n some few e =
     let built = suis-built i zone first n e in
     rw (← built .2) (content-is-lawful i zone k small first n (built .0) (suis-are i zone first n (built .1)) some few)
 
--- ---- it holds the sui of each year
+-- ---- it holds the leap table, and one sui for each year
+pub leap-table-is-kept : (i : Inputs) (zone first : ℤ) (n : ℕ) {c : Content} → contentBuilt i zone first n ≡ answered c → c .leap ≡ i .leap
+leap-table-is-kept i zone first n e = sym (ap (λ (c : Content). c .leap) (suis-built i zone first n e .2))
+
+pub one-sui-a-year : (i : Inputs) (zone first : ℤ) (n : ℕ) {c : Content} → contentBuilt i zone first n ≡ answered c → suiCount c ≡ n
+one-sui-a-year i zone first n e =
+    let built = suis-built i zone first n e in
+    let all = suis-are i zone first n (built .1) .all in
+    let half : length (suiWords first (built .0)) / 2 ≡ n = omega (arith, length-sui-words first (built .0)) in
+    sym (ap suiCount (built .2)) ∙ half
+
 -- record j of the content is the answered sui, of this year, with its months behind those of the records before it
 pub record InFile (answer : Verdict Sui) (year : ℤ) (c : Content) (j : ℕ) : Type 0 where
   pub sui : Sui
@@ -72,7 +83,7 @@ sui-of-each-year i zone first n e j h =
     })
 
 -- for accepted inputs that is what `sui` answers for the year
-sui-of-accepted : (i : Inputs) → InputsAccepted i → (zone year : ℤ) → suiFor i zone year ≡ suiOfYear i zone year
+pub sui-of-accepted : (i : Inputs) → InputsAccepted i → (zone year : ℤ) → suiFor i zone year ≡ suiOfYear i zone year
 unfolding suiFor
 sui-of-accepted i judged zone year = rw judged
 

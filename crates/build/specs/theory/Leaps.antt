@@ -1,13 +1,11 @@
 -- Handles of a sui whose leap month stands at a place: how many leap months the file's rules count before each place, and that each handle is the one they ask
 -- for. Assumes nothing.
 use mathlib.Core.Path.{_≡_, refl, sym, ap, ap₂, _∙_}
-use mathlib.Core.Bool.{Bool, true, false, _&&_, _||_}
+use mathlib.Core.Bool.{Bool, true, false}
 use mathlib.Core.List.{List, [], _∷_}
 use Prim.Native.Nat.{ℕ, zero, suc, _+_, _-_, _*_, _≤_, _<_}
 use native.Mathlib.Omega.{arith}
 use native.Mathlib.Decide.{decLt}
-use borrow.Author.Tests.{eq-eqb, le-leb}
-use lib.Dec.{eqb, leb}
 use lib.IntN.{ℤ, pos, _+ℤ_, _*ℤ_}
 use Rattle.whole.specs.Floor.{floorMod, floorMod-unique}
 use Rattle.whole.specs.Solver.{⇑, ring}
@@ -18,6 +16,7 @@ use Rattle.months.specs.Handles.{ordinal, numberAt, leapMark, handle, handleAt}
 use Rattle.months.specs.theory.Numbering.{before-leap, from-leap, at-leap, not-at-leap, mark-small}
 use Rattle.months.specs.theory.Suis.{month}
 use Rattle.almanac.specs.Content.{monthAt, leapsBefore, goodHandle}
+use Rattle.almanac.specs.theory.Judged.{ordinary-handle, leap-decides}
 use Rattle.build.specs.theory.Kept.{KeptSui}
 
 -- the handle of a leap month is odd
@@ -46,74 +45,76 @@ behind-the-leap-month year leap place h l =
     one-back : ordinal (place + 11) ≡ ordinal (place - 1)
     one-back = omega arith
 
--- one of two tests holds
-either-first : (a b : Bool) → a ≡ true → (a || b) ≡ true
-either-first a b e = rw e
-
-either-second : (a b : Bool) → b ≡ true → (a || b) ≡ true
-either-second true b e = refl
-either-second false b e = e
+-- a leap month's handle is good in a sui of 13 that has had none before, at a place that is not the first
+leap-handle : (year : ℤ) (count leaps place : ℕ) (h : ℤ) → count ≡ 13 → leaps ≡ 0 → 0 < place → h ≡ handleAt year place place → goodHandle year (pos count) leaps place h ≡ true
+leap-handle year count leaps place h thirteen none some is = go (isExactly (handleAt year 13 (place - leaps)) h) refl
+  where
+    go : (b : Bool) → isExactly (handleAt year 13 (place - leaps)) h ≡ b → goodHandle year (pos count) leaps place h ≡ true
+    go true e = sym (ordinary-handle year (pos count) leaps place h e)
+    go false e =
+        sym (leap-decides year (pos count) leaps place h e (says-exactly (pos 13) (pos count) (ap pos thirteen)) (omega arith) (omega arith))
+        ∙ says-exactly (handleAt year place place) h is
 
 module _ {year : ℤ} {sui : Sui} (k : KeptSui year sui) where
-  -- the words of the file's months, where those of the sui stand from month `from` on
+  -- a month at the leap month's place is one of thirteen
+  of-thirteen : k .leap < sui .count → sui .count ≡ 13
+  of-thirteen h = go (decLt 12 (sui .count)) (k .few)
+    where
+      go : Dec (12 < sui .count) → (12 ≤ sui .count) × (sui .count ≤ 13) → sui .count ≡ 13
+      go (yes l) few = omega arith
+      go (no l) few = let none = k .none-in-twelve (λ e. omega arith) in absurd (omega arith)
+
+  -- `months` are the words of a file's months; those of the sui stand from month `from` on
   module _ (months : List ℤ) (from : ℕ) (are : (place : ℕ) → place < sui .count → monthAt months (from + place) ≡ month sui place) where
     -- how many leap months stand before a place: none up to the leap month, and one behind it
-    leaps-are : (place : ℕ) → place ≤ sui .count → (place ≤ k .leap → leapsBefore months from place ≡ 0) × (k .leap < place → leapsBefore months from place ≡ 1)
+    record Leaps (place : ℕ) : Type 0 where
+      none : place ≤ k .leap → leapsBefore months from place ≡ 0
+      one : k .leap < place → leapsBefore months from place ≡ 1
+
+    -- one more where the leap month stands
+    leaps-next : (place : ℕ) → place < sui .count → leapsBefore months from (suc place) ≡ leapsBefore months from place + leapMark (k .leap) place
     unfolding leapsBefore
-    leaps-are zero h = (λ l. refl, λ l. absurd (omega arith))
-    leaps-are (suc place) h =
-        let before = leaps-are place (omega arith) in
-        let mark : floorMod (monthAt months (from + place) .handle) 2 ≡ leapMark (k .leap) place =
-        ap (λ (m : Month). floorMod (m .handle) 2) (are place (omega arith)) ∙ ap (λ (z : ℤ). floorMod z 2) (k .handles place (omega arith)) ∙ mark-of year (k .leap) place in
-        let other = not-at-leap (k .leap) place in
-        let here = at-leap (k .leap) place in (
-          λ l. omega (arith, mark, before .0 (omega arith), other (λ e. omega arith)),
-          λ l. go (decLt (k .leap) place) mark before other here l,
-        )
+    leaps-next place h =
+        ap (λ (n : ℕ). leapsBefore months from place + n)
+        (ap (λ (m : Month). floorMod (m .handle) 2) (are place h) ∙ ap (λ (z : ℤ). floorMod z 2) (k .handles place h) ∙ mark-of year (k .leap) place)
+
+    leaps-are : (place : ℕ) → place ≤ sui .count → Leaps place
+    leaps-are zero h = record { none = λ l. (unfold leapsBefore in refl); one = λ l. absurd (omega arith) }
+    leaps-are (suc place) h = go (leaps-are place (omega arith)) (leaps-next place (omega arith)) (decLt (k .leap) place)
       where
-        go : Dec (k .leap < place) → floorMod (monthAt months (from + place) .handle) 2 ≡ leapMark (k .leap) place
-            → (place ≤ k .leap → leapsBefore months from place ≡ 0) × (k .leap < place → leapsBefore months from place ≡ 1)
-            → ((place ≡ k .leap → ⊥) → 0 ≡ leapMark (k .leap) place) → (place ≡ k .leap → 1 ≡ leapMark (k .leap) place) → k .leap < suc place
-            → leapsBefore months from place + floorMod (monthAt months (from + place) .handle) 2 ≡ 1
-        go (yes behind) mark before other here l = omega (arith, mark, before .1 behind, other (λ e. omega arith))
-        go (no by) mark before other here l = omega (arith, mark, before .0 (omega arith), here (omega arith))
+        go : Leaps place → leapsBefore months from (suc place) ≡ leapsBefore months from place + leapMark (k .leap) place → Dec (k .leap < place) → Leaps (suc place)
+        go before next (yes b) =
+            let other = not-at-leap (k .leap) place (λ e. omega arith) in
+            record { none = λ l. absurd (omega arith); one = λ l. omega (arith, before .one b) }
+        go before next (no b) =
+            let none = before .none (omega arith) in
+            record {
+              none = λ l. omega (arith, not-at-leap (k .leap) place (λ e. omega arith));
+              one = λ l. omega (arith, at-leap (k .leap) place (omega arith));
+            }
 
     -- 12 and no leap month, or 13 and one
     pub count-is : 12 + leapsBefore months from (sui .count) ≡ sui .count
-    count-is = go (decLt 12 (sui .count)) (k .few) (k .leap-stands) (leaps-are (sui .count) (omega arith))
+    count-is = go (decLt (k .leap) (sui .count)) (k .few) (k .leap-stands) (leaps-are (sui .count) (omega arith))
       where
-        go : Dec (12 < sui .count) → (12 ≤ sui .count) × (sui .count ≤ 13) → (0 < k .leap) × (k .leap ≤ 12)
-            → (sui .count ≤ k .leap → leapsBefore months from (sui .count) ≡ 0) × (k .leap < sui .count → leapsBefore months from (sui .count) ≡ 1)
-            → 12 + leapsBefore months from (sui .count) ≡ sui .count
-        go (yes h) few leap leaps = omega (arith, leaps .1 (omega arith))
-        go (no h) few leap leaps = let none = k .none-in-twelve (λ e. omega arith) in omega (arith, leaps .0 (omega arith))
+        go : Dec (k .leap < sui .count) → (12 ≤ sui .count) × (sui .count ≤ 13) → (0 < k .leap) × (k .leap ≤ 12) → Leaps (sui .count) → 12 + leapsBefore months from (sui .count) ≡ sui .count
+        go (yes h) few leap leaps = omega (arith, leaps .one h, of-thirteen h)
+        go (no h) few leap leaps = omega (arith, leaps .none (omega arith))
 
     -- each handle is the one that the rules ask for
     pub handle-good : (place : ℕ) → place < sui .count → goodHandle year (pos (sui .count)) (leapsBefore months from place) place (month sui place .handle) ≡ true
-    unfolding goodHandle
     handle-good place h = go (decLt place (k .leap)) (decLt (k .leap) place) (k .few) (k .leap-stands) (leaps-are place (omega arith))
       where
-        go : Dec (place < k .leap) → Dec (k .leap < place) → (12 ≤ sui .count) × (sui .count ≤ 13) → (0 < k .leap) × (k .leap ≤ 12)
-            → (place ≤ k .leap → leapsBefore months from place ≡ 0) × (k .leap < place → leapsBefore months from place ≡ 1)
-            → (isExactly (handleAt year 13 (place - leapsBefore months from place)) (month sui place .handle)
-            || (isExactly (pos 13) (pos (sui .count)) && (eqb (leapsBefore months from place) 0 && (leb 1 place && isExactly (handleAt year place place) (month sui place .handle))))) ≡ true
-        go (yes l) d few leap leaps =
-            let none = leaps .0 (omega arith) in
-            let same : place - leapsBefore months from place ≡ place = omega arith in
-            either-first (isExactly (handleAt year 13 (place - leapsBefore months from place)) (month sui place .handle)) _
-            (says-exactly (handleAt year 13 (place - leapsBefore months from place)) (month sui place .handle) (k .handles place h ∙ before-the-leap-month year (k .leap) place l (omega arith) ∙ ap (handleAt year 13) (sym same)))
-        go (no l) (yes b) few leap leaps =
-            let one = leaps .1 b in
-            let same : place - leapsBefore months from place ≡ place - 1 = omega arith in
-            either-first (isExactly (handleAt year 13 (place - leapsBefore months from place)) (month sui place .handle)) _
-            (says-exactly (handleAt year 13 (place - leapsBefore months from place)) (month sui place .handle) (k .handles place h ∙ behind-the-leap-month year (k .leap) place b (omega arith) ∙ ap (handleAt year 13) (sym same)))
+        ordinary : (other : ℕ) → place - leapsBefore months from place ≡ other → handleAt year (k .leap) place ≡ handleAt year 13 other → goodHandle year (pos (sui .count)) (leapsBefore months from place) place (month sui place .handle) ≡ true
+        ordinary other q e =
+            let wanted = handleAt year 13 (place - leapsBefore months from place) in
+            sym (ordinary-handle year (pos (sui .count)) (leapsBefore months from place) place (month sui place .handle)
+            (says-exactly wanted (month sui place .handle) (k .handles place h ∙ e ∙ ap (handleAt year 13) (sym q))))
+
+        go : Dec (place < k .leap) → Dec (k .leap < place) → (12 ≤ sui .count) × (sui .count ≤ 13) → (0 < k .leap) × (k .leap ≤ 12) → Leaps place → goodHandle year (pos (sui .count)) (leapsBefore months from place) place (month sui place .handle) ≡ true
+        go (yes l) d few leap leaps = ordinary place (omega (arith, leaps .none (omega arith))) (before-the-leap-month year (k .leap) place l (leap .1))
+        go (no l) (yes b) few leap leaps = ordinary (place - 1) (omega (arith, leaps .one b)) (behind-the-leap-month year (k .leap) place b (omega arith))
         go (no l) (no b) few leap leaps =
-            let none = leaps .0 (omega arith) in
             let here : k .leap ≡ place = omega arith in
-            let thirteen : sui .count ≡ 13 = in-thirteen (decLt 12 (sui .count)) few in
-            either-second (isExactly (handleAt year 13 (place - leapsBefore months from place)) (month sui place .handle)) _
-            (rw (thirteen, eq-eqb (leapsBefore months from place) 0 none, le-leb 1 place (omega arith)) (says-exactly (handleAt year place place) (month sui place .handle) (k .handles place h ∙ ap (λ (n : ℕ). handleAt year n place) here)))
-          where
-            in-thirteen : Dec (12 < sui .count) → (12 ≤ sui .count) × (sui .count ≤ 13) → sui .count ≡ 13
-            in-thirteen (yes m) few = omega arith
-            in-thirteen (no m) few = let none = k .none-in-twelve (λ e. omega arith) in absurd (omega arith)
+            leap-handle year (sui .count) (leapsBefore months from place) place (month sui place .handle) (of-thirteen (omega arith)) (leaps .none (omega arith)) (omega arith)
+            (k .handles place h ∙ ap (λ (n : ℕ). handleAt year n place) here)

@@ -29,15 +29,12 @@ use Rattle.build.specs.theory.Years.{SuisOf}
 abbrev pub suiAt : List Sui → ℕ → Sui
 suiAt suis j = getD suis j noSui
 
--- ---- of records of two words, and of three: behind the first
-second-of-two : (x y : ℤ) (words : List ℤ) (j at : ℕ) → getD (x ∷ y ∷ words) (2 * suc j + at) (pos 0) ≡ getD words (2 * j + at) (pos 0)
-second-of-two x y words j at = let e : 2 * suc j + at ≡ suc (suc (2 * j + at)) = omega arith in rw e
-
+-- ---- one record further is two words further
 year-behind : (x y : ℤ) (words : List ℤ) (j : ℕ) → yearAt (x ∷ y ∷ words) (suc j) ≡ yearAt words j
 year-behind x y words j = let e : 2 * suc j ≡ suc (suc (2 * j)) = omega arith in rw e
 
 count-behind : (x y : ℤ) (words : List ℤ) (j : ℕ) → countAt (x ∷ y ∷ words) (suc j) ≡ countAt words j
-count-behind x y words j = second-of-two x y words j 1
+count-behind x y words j = let e : 2 * suc j + 1 ≡ suc (suc (2 * j + 1)) = omega arith in rw e
 
 -- ---- suis
 pub year-at : (first : ℤ) (suis : List Sui) (j : ℕ) → j < length suis → yearAt (suiWords first suis) j ≡ first +ℤ pos j
@@ -67,7 +64,7 @@ unfolding monthsBefore
 before-behind x y words zero = omega arith
 before-behind x y words (suc j) = omega (arith, before-behind x y words j, ap natAbs (count-behind x y words j))
 
--- month k, or one of the words behind
+-- month k of some, and of those behind them
 month-here : (months : List Month) (rest : List ℤ) (k : ℕ) → k < length months → monthAt (wordsOf months ++ rest) k ≡ getD months k noMonth
 unfolding wordsOf
 month-here [] rest k h = absurd (omega arith)
