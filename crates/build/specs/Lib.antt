@@ -1,1 +1,3 @@
+pub mod theory
 pub mod Build
+pub mod Theorems

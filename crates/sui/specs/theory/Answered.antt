@@ -13,6 +13,7 @@ use Rattle.whole.specs.Ranges.{Within, All}
 use Rattle.whole.specs.Tabulated.{tabulate}
 use Rattle.refusals.specs.declared.Refusal.{Refusal}
 use Rattle.refusals.specs.Verdict.{Verdict, accepted, answered, refused, refusal, _before_, _then_, test-answered, then-answered, answer-or-refusal}
+use Rattle.dates.specs.Answers.{hasDate}
 use Rattle.dates.specs.theory.Sizes.{range-small}
 use Rattle.clock.specs.Theorems.{converted-day-has-date}
 use Rattle.series.specs.Series.{Series}
@@ -63,7 +64,7 @@ days-found i zone year {days} e =
       by-rule = two .2;
     }
 
--- ---- days are small
+-- ---- days have a date, and are small
 all-tabulate : {m : ℕ} (f : ℕ → ℤ) (n : ℕ) → ((k : ℕ) → k < n → Within m (f k)) → All m (tabulate f n)
 all-tabulate {m} f zero h = all-zeros 0
 all-tabulate {m} f (suc n) h = all-append (all-tabulate f n (λ k l. h k (omega arith))) (one (h n (omega arith)))
@@ -75,12 +76,14 @@ all-tabulate {m} f (suc n) h = all-append (all-tabulate f n (λ k l. h k (omega 
         at w zero = w
         at w (suc k) = zero-within
 
-pub turn-day-small : (leap : List ℤ) (s : Series) → Ready leap s → (zone : ℤ) → Within 1000 zone → (k : ℕ) → k < turnsOf s → Within 200000 (turnDay leap s zone k)
+pub turn-day-has-date : (leap : List ℤ) (s : Series) → Ready leap s → (zone : ℤ) → Within 1000 zone → (k : ℕ) → k < turnsOf s → hasDate (turnDay leap s zone k) ≡ true
 unfolding dayOfMark
-turn-day-small leap s r zone z k h =
+turn-day-has-date leap s r zone z k h =
     let j = turnIndexOf s k in
-    range-small (turnDay leap s zone k)
-    (converted-day-has-date leap (r .lawful-table) (record { 0 = secondOfMark s j }) (mark-converts s (r .is-accepted) j (turn-after s k) (turn-by-last s k h)) zone z)
+    converted-day-has-date leap (r .lawful-table) (record { 0 = secondOfMark s j }) (mark-converts s (r .is-accepted) j (turn-after s k) (turn-by-last s k h)) zone z
+
+pub turn-day-small : (leap : List ℤ) (s : Series) → Ready leap s → (zone : ℤ) → Within 1000 zone → (k : ℕ) → k < turnsOf s → Within 200000 (turnDay leap s zone k)
+turn-day-small leap s r zone z k h = range-small (turnDay leap s zone k) (turn-day-has-date leap s r zone z k h)
 
 pub new-moons-small : (i : Inputs) (zone : ℤ) → Known i → Within 1000 zone → All 1000000 (newMoonDays i zone)
 new-moons-small i zone k z =
