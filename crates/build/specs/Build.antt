@@ -45,12 +45,16 @@ contentFor leap first suis = content leap (suiWords first suis) (monthWords suis
 unfoldable pub contentBuilt : Inputs → ℤ → ℤ → ℕ → Verdict Content
 contentBuilt i zone first n = suisFrom i zone first n then λ suis. answered (contentFor (i .leap) first suis)
 
+-- their bytes; 12 where there is not room for all
+unfoldable pub bytesOfYears : Inputs → ℤ → ℤ → ℕ → ℕ → Verdict (List ℕ)
+bytesOfYears i zone first n room = contentBuilt i zone first n then λ c. bytesInto c room
+
 -- ---- the whole: 1; Sun 2 to 5; Moon 2 to 5; 7; "after 7 the count is judged, then each sui in year order by 8 to 11, then 12"
 unfoldable pub bytesBuilt : Inputs → ℤ → ℤ → ℤ → ℕ → Verdict (List ℕ)
 bytesBuilt i zone first count room =
     inputsJudged i
     before refuseWhen (not (inRange (pos 1) (pos 128) count)) 8
-    before (contentBuilt i zone first (natAbs count) then λ c. bytesInto c room)
+    before bytesOfYears i zone first (natAbs count) room
 
 -- how many bytes it has
 unfoldable pub fileBuilt : Inputs → ℤ → ℤ → ℤ → ℕ → Verdict ℕ

@@ -21,7 +21,7 @@ use Rattle.inputs.specs.Theorems.{known}
 use Rattle.months.specs.declared.Sui.{Sui}
 use Rattle.months.specs.Answers.{noSui}
 use Rattle.months.specs.theory.Suis.{month}
-use Rattle.sui.specs.Sui.{suiFor}
+use Rattle.sui.specs.Sui.{suiFor, suiOfYear}
 use Rattle.sui.specs.theory.Answered.{inputs-answered}
 use Rattle.almanac.specs.declared.WriteAnswer.{WriteAnswer}
 use Rattle.almanac.specs.Content.{Content, suiCount, yearAt, countAt, monthAt, monthsBefore, lawful}
@@ -29,7 +29,7 @@ use Rattle.almanac.specs.Layout.{bytesOf, fileOf}
 use Rattle.almanac.specs.Answers.{paperWritten, bytesInto, all-bytes}
 use Rattle.almanac.specs.Theorems.{written-is-read}
 use Rattle.almanac.specs.OneResult.{written-apart}
-use Rattle.build.specs.Build.{suiOfYear, suisFrom, suiWords, contentFor, contentBuilt, bytesBuilt, fileBuilt}
+use Rattle.build.specs.Build.{suisFrom, suiWords, contentFor, contentBuilt, bytesOfYears, bytesBuilt, fileBuilt}
 use Rattle.build.specs.theory.Words.{length-sui-words}
 use Rattle.build.specs.theory.Years.{suis-are}
 use Rattle.build.specs.theory.Records.{suiAt, suis-whole, year-at, count-at, month-at}
@@ -98,7 +98,7 @@ pub record BuiltFile (i : Inputs) (zone first count : ℤ) (bytes : List ℕ) : 
   pub is-read : fileOf bytes ≡ answered content
 
 pub built-is-read : (i : Inputs) (zone first count : ℤ) (room : ℕ) {bytes : List ℕ} → bytesBuilt i zone first count room ≡ answered bytes → Within 1000 zone → BuiltFile i zone first count bytes
-unfolding bytesBuilt
+unfolding bytesBuilt bytesOfYears
 built-is-read i zone first count room {bytes} e small =
     let n = natAbs count in
     let rest = contentBuilt i zone first n then λ c. bytesInto c room in

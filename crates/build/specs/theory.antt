@@ -6,3 +6,6 @@ pub mod Kept
 pub mod Following
 pub mod Leaps
 pub mod Lawful
+pub mod Put
+pub mod Stored
+pub mod Walk

@@ -10,8 +10,12 @@ use lib.Signed.{ltZ}
 use Rattle.whole.specs.Tabulated.{tabulate}
 use Rattle.refusals.specs.Verdict.{Verdict, answered, refused, refusal, refuseWhen, _before_}
 use Rattle.series.specs.Series.{Series}
+use Rattle.inputs.specs.Inputs.{Inputs, sun, moon}
+use Rattle.inputs.specs.Known.{Known}
 use Rattle.months.specs.Limits.{yearInRange}
 use Rattle.turns.specs.Listed.{turnDay, turnsBy, turnsOf}
+use Rattle.turns.specs.declared.inner.TurnList.{TurnList}
+use Rattle.turns.specs.Searched.{Searched}
 use Rattle.sui.specs.theory.Solstices.{eve}
 use Rattle.suis.specs.declared.inner.Places.{Places}
 use Rattle.suis.specs.declared.inner.BeginAnswer.{BeginAnswer}
@@ -22,6 +26,16 @@ pub record Ahead (leap : List ℤ) (s : Series) (zone : ℤ) (from few : ℕ) (d
   pub are-days : days ≡ tabulate (λ k. turnDay leap s zone (from + k)) (length days)
   pub inside : from + length days ≤ turnsOf s
   pub enough : length days < few → from + length days ≡ turnsOf s
+
+-- what finding a sui asks: accepted inputs, the turns of both, the place of the year's first solstice, and the days ahead of it and of month 11's new moon
+pub record YearAhead (i : Inputs) (zone : ℤ) (suns moons : TurnList) (year : ℤ) (place : ℕ) (solstices newmoons : List ℤ) : Type 0 where
+  pub is-known : Known i
+  pub suns-searched : Searched (i .leap) (sun i) zone suns
+  pub moons-searched : Searched (i .leap) (moon i) zone moons
+  pub is-place : place ≡ turnsBy (i .leap) (sun i) zone (eve (year -ℤ pos 1))
+  pub solstices-ahead : Ahead (i .leap) (sun i) zone place 3 solstices
+  pub some-moons : 0 < turnsBy (i .leap) (moon i) zone (turnDay (i .leap) (sun i) zone place)
+  pub moons-ahead : Ahead (i .leap) (moon i) zone (turnsBy (i .leap) (moon i) zone (turnDay (i .leap) (sun i) zone place) - 1) 15 newmoons
 
 -- how many of so many there are from a place on
 unfoldable pub fewer : ℕ → ℕ → ℕ → ℕ

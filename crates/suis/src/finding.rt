@@ -15,7 +15,7 @@ use whole::inner::in_range;
 ghost use mathlib.Core.Path.{_≡_};
 ghost use mathlib.Core.Bool.{_&&_};
 ghost use Prim.Native.Nat.{_+_, _-_, _*_, _≤_, _<_};
-ghost use lib.IntN.{pos, _+ℤ_, _-ℤ_};
+ghost use lib.IntN.{pos, _+ℤ_};
 ghost use lib.ListN.{length, getD};
 ghost use lib.Signed.{_≤ℤ_, _<ℤ_};
 ghost use Rattle.whole.specs.Ranges.{Within};
@@ -23,15 +23,15 @@ ghost use Rattle.series.specs.declared.Body.the-variants.{Sun, Moon};
 ghost use Rattle.series.specs.Series.{series};
 ghost use Rattle.marks.specs.Listed.{firstReached, lastReached};
 ghost use Rattle.inputs.specs.Inputs.{inputs, dayOfMark};
-ghost use Rattle.inputs.specs.Known.{Known, Ready};
+ghost use Rattle.inputs.specs.Known.{Ready};
 ghost use Rattle.months.specs.Months.{daysOf};
 ghost use Rattle.months.specs.Answers.{daysAnswer};
-ghost use Rattle.turns.specs.Listed.{turnDay, turnDays, turnsBy, turnsOf};
+ghost use Rattle.turns.specs.Listed.{turnDays, turnsBy, turnsOf};
 ghost use Rattle.turns.specs.Searched.{Searched};
 ghost use Rattle.sui.specs.Sui.{suiDays};
 ghost use Rattle.sui.specs.theory.Found.{zhongqiFrom};
 ghost use Rattle.sui.specs.theory.Solstices.{eve};
-ghost use Rattle.suis.specs.Ahead.{Ahead, oneMore, crowded};
+ghost use Rattle.suis.specs.Ahead.{Ahead, YearAhead, oneMore, crowded};
 
 // Whether day j of the list is not after `day`, and no further one is.
 fn one_more(days: &[i64], j: usize, day: i64) -> bool
@@ -180,13 +180,7 @@ pub fn days_after(
     solstices: &[i64],
     newmoons: &[i64],
 ) -> DaysAnswer
-    requires { ⌜ Known (inputs (now leap) (sunstart .0) (now sun) (moonstart .0) (now moon)) ⌝ }
-    requires { ⌜ Searched (now leap) (series Sun (sunstart .0) (now sun)) zone suns ⌝ }
-    requires { ⌜ Searched (now leap) (series Moon (moonstart .0) (now moon)) zone moons ⌝ }
-    requires { ⌜ place ≡ turnsBy (now leap) (series Sun (sunstart .0) (now sun)) zone (eve (year -ℤ pos 1)) ⌝ }
-    requires { ⌜ Ahead (now leap) (series Sun (sunstart .0) (now sun)) zone place 3 (now solstices) ⌝ }
-    requires { ⌜ 0 < turnsBy (now leap) (series Moon (moonstart .0) (now moon)) zone (turnDay (now leap) (series Sun (sunstart .0) (now sun)) zone place) ⌝ }
-    requires { ⌜ Ahead (now leap) (series Moon (moonstart .0) (now moon)) zone (turnsBy (now leap) (series Moon (moonstart .0) (now moon)) zone (turnDay (now leap) (series Sun (sunstart .0) (now sun)) zone place) - 1) 15 (now newmoons) ⌝ }
+    requires { ⌜ YearAhead (inputs (now leap) (sunstart .0) (now sun) (moonstart .0) (now moon)) zone suns moons year place (now solstices) (now newmoons) ⌝ }
     ensures { λ r. ⌜ r ≡ daysAnswer (suiDays (inputs (now (leap .entry)) (sunstart .0) (now (sun .entry)) (moonstart .0) (now (moon .entry))) zone year) ⌝ }
 {
     if !in_range(1700, 2500, year) {

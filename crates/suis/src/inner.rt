@@ -13,21 +13,17 @@ use whole::inner::in_range;
 use whole::inner::subtract;
 ghost use mathlib.Core.Path.{_≡_};
 ghost use mathlib.Core.List.{_++_};
-ghost use Prim.Native.Nat.{_+_, _-_, _≤_, _<_};
-ghost use lib.IntN.{pos, _-ℤ_};
+ghost use Prim.Native.Nat.{_+_, _≤_};
 ghost use lib.ListN.{length, drop};
-ghost use Rattle.whole.specs.Ranges.{Within};
 ghost use Rattle.whole.specs.Tabulated.{tabulate};
 ghost use Rattle.series.specs.declared.Body.the-variants.{Sun, Moon};
 ghost use Rattle.series.specs.Series.{series};
 ghost use Rattle.inputs.specs.Inputs.{inputs};
-ghost use Rattle.inputs.specs.Known.{Known};
 ghost use Rattle.months.specs.Answers.{suiAnswer};
-ghost use Rattle.turns.specs.Listed.{turnDay, turnsBy};
+ghost use Rattle.turns.specs.Listed.{turnDay};
 ghost use Rattle.turns.specs.Searched.{Searched};
 ghost use Rattle.sui.specs.Sui.{suiOfYear};
-ghost use Rattle.sui.specs.theory.Solstices.{eve};
-ghost use Rattle.suis.specs.Ahead.{Ahead, paperBegin, begun, fewer};
+ghost use Rattle.suis.specs.Ahead.{YearAhead, paperBegin, begun, fewer};
 
 // The place of the first solstice of a sui among the Sun's, and of month 11's new moon among the Moon's.
 pub struct Places {
@@ -129,17 +125,22 @@ pub fn sui_after(
     solstices: &[i64],
     newmoons: &[i64],
 ) -> SuiAnswer
-    requires { ⌜ Known (inputs (now leap) (sunstart .0) (now sun) (moonstart .0) (now moon)) ⌝ }
-    requires { ⌜ Searched (now leap) (series Sun (sunstart .0) (now sun)) zone suns ⌝ }
-    requires { ⌜ Searched (now leap) (series Moon (moonstart .0) (now moon)) zone moons ⌝ }
-    requires { ⌜ place ≡ turnsBy (now leap) (series Sun (sunstart .0) (now sun)) zone (eve (year -ℤ pos 1)) ⌝ }
-    requires { ⌜ Ahead (now leap) (series Sun (sunstart .0) (now sun)) zone place 3 (now solstices) ⌝ }
-    requires { ⌜ 0 < turnsBy (now leap) (series Moon (moonstart .0) (now moon)) zone (turnDay (now leap) (series Sun (sunstart .0) (now sun)) zone place) ⌝ }
-    requires { ⌜ Ahead (now leap) (series Moon (moonstart .0) (now moon)) zone (turnsBy (now leap) (series Moon (moonstart .0) (now moon)) zone (turnDay (now leap) (series Sun (sunstart .0) (now sun)) zone place) - 1) 15 (now newmoons) ⌝ }
+    requires { ⌜ YearAhead (inputs (now leap) (sunstart .0) (now sun) (moonstart .0) (now moon)) zone suns moons year place (now solstices) (now newmoons) ⌝ }
     ensures { λ r. ⌜ r ≡ suiAnswer (suiOfYear (inputs (now (leap .entry)) (sunstart .0) (now (sun .entry)) (moonstart .0) (now (moon .entry))) zone year) ⌝ }
 {
     let found = days_after(
-        leap, sunstart, sun, moonstart, moon, zone, suns, moons, year, place, solstices, newmoons,
+        leap,
+        sunstart,
+        sun,
+        moonstart,
+        moon,
+        zone,
+        suns,
+        moons,
+        year,
+        place,
+        solstices,
+        newmoons,
     );
     let check = found.check;
     if let Check::Refused(r) = check {

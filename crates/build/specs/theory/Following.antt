@@ -15,10 +15,9 @@ use Rattle.months.specs.declared.Sui.{Sui}
 use Rattle.months.specs.Months.{lastNotAfter, suiOf, suiIn}
 use Rattle.months.specs.Theorems.{Meet, months-meet}
 use Rattle.months.specs.theory.Suis.{month}
-use Rattle.sui.specs.Sui.{newMoonDays, solsticesIn, zhongqiDays, oneSolstice, suiDays}
+use Rattle.sui.specs.Sui.{newMoonDays, solsticesIn, zhongqiDays, oneSolstice, suiDays, suiOfYear}
 use Rattle.sui.specs.Theorems.{solstices-24-apart, zhongqi-every-second-mark}
 use Rattle.sui.specs.theory.Answered.{days-found}
-use Rattle.build.specs.Build.{suiOfYear}
 
 module _ (i : Inputs) (zone : ℤ) (known : Known i) where
   -- the last new-moon day not after a mark of the Sun

@@ -25,10 +25,9 @@ use Rattle.months.specs.theory.Days.{found-listed, found-months, found-twelve, 
 use Rattle.months.specs.theory.Leap.{leap-of-others}
 use Rattle.months.specs.theory.Listed.{at-most-thirteen}
 use Rattle.months.specs.theory.Suis.{month, no-bad-month, sui-count, month-is, handle-is, first-is, end-is}
-use Rattle.sui.specs.Sui.{newMoonDays, zhongqiDays, suiDays}
+use Rattle.sui.specs.Sui.{newMoonDays, zhongqiDays, suiDays, suiOfYear}
 use Rattle.sui.specs.Theorems.{thirteen-zhongqi, new-moon-days-rise}
 use Rattle.sui.specs.theory.Answered.{days-found}
-use Rattle.build.specs.Build.{suiOfYear}
 use Rattle.build.specs.theory.Dated.{new-moons-dated, last-day-dated}
 
 -- the rules of one sui; `leap` is the place of its leap month, 12 in a sui of twelve

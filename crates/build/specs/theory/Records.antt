@@ -19,7 +19,7 @@ use Rattle.months.specs.Months as Months
 use Rattle.months.specs.Months.{numbered, suiOf}
 use Rattle.months.specs.Answers.{noSui}
 use Rattle.months.specs.theory.Suis.{month, sui-is}
-use Rattle.sui.specs.Sui.{suiDays}
+use Rattle.sui.specs.Sui.{suiDays, suiOfYear}
 use Rattle.almanac.specs.Content.{yearAt, countAt, monthAt, monthsBefore}
 use Rattle.build.specs.Build.{monthsIn, wordsOf, suiWords, monthWords}
 use Rattle.build.specs.theory.Words.{length-words-of}
@@ -90,15 +90,16 @@ has-its-months year days e =
     rw (← sui-is year days e)
     (omega (arith, length-append (tabulate (Months.monthAt year days) (days .months)) (replicate (13 - days .months) noMonth), length-tabulate (Months.monthAt year days) (days .months)))
 
+pub sui-has-its-months : (i : Inputs) (zone year : ℤ) {sui : Sui} → suiOfYear i zone year ≡ answered sui → sui .count ≤ length (sui .months)
+sui-has-its-months i zone year {sui} e = let made = then-answered (suiDays i zone year) (suiOf year) sui e in has-its-months year (made .0) (made .2)
+
 abbrev pub Whole : List Sui → Type 0
 Whole suis = (j : ℕ) → j < length suis → suiAt suis j .count ≤ length (suiAt suis j .months)
 
 pub suis-whole : (i : Inputs) (zone first : ℤ) (n : ℕ) (suis : List Sui) → SuisOf i zone first n suis → Whole suis
 suis-whole i zone first n suis s j h =
     let all = s .all in
-    let year = first +ℤ pos j in
-    let made = then-answered (suiDays i zone year) (suiOf year) (suiAt suis j) (s .each j (omega arith) noSui) in
-    has-its-months year (made .0) (made .2)
+    sui-has-its-months i zone (first +ℤ pos j) (s .each j (omega arith) noSui)
 
 pub month-at : (first : ℤ) (suis : List Sui) → Whole suis → (j : ℕ) → j < length suis → (place : ℕ) → place < suiAt suis j .count → monthAt (monthWords suis) (monthsBefore (suiWords first suis) j + place) ≡ month (suiAt suis j) place
 unfolding suiWords monthWords

@@ -10,8 +10,9 @@ use lib.Seq.{getD-at}
 use Rattle.whole.specs.Below.{below}
 use Rattle.refusals.specs.Verdict.{answered, refused, then-answered, answers-apart, _then_}
 use Rattle.inputs.specs.Inputs.{Inputs}
+use Rattle.sui.specs.Sui.{suiOfYear}
 use Rattle.months.specs.declared.Sui.{Sui}
-use Rattle.build.specs.Build.{suiOfYear, suisFrom}
+use Rattle.build.specs.Build.{suisFrom}
 
 module _ (i : Inputs) (zone first : ℤ) where
   -- ---- one more year

@@ -25,9 +25,7 @@ use Rattle.months.specs.theory.Kept.{year-small}
 use Rattle.turns.specs.declared.inner.TurnList.{TurnList}
 use Rattle.turns.specs.Listed.{turnIndexOf, turn-after, turnDay, turnDays, turnsBy}
 use Rattle.turns.specs.Searched.{turn-fits, circles-small}
-use Rattle.sui.specs.theory.Solstices.{eve}
 use Rattle.sui.specs.theory.Found.{oneInEach, zhongqiFrom, found-when, missing-when, out-of-range, sui-days-are}
-use Rattle.suis.specs.Ahead.{Ahead}
 use Rattle.suis.specs.theory.Each.{each-is, both-listed, both-ahead, first-day, last-day, to-the-last}
 use Rattle.suis.specs.theory.Next.{first-is-turn, solstices-in-order}
 use Rattle.suis.proofs.finding.days_after.Statement.{statement}
@@ -70,12 +68,6 @@ sun-of start = sun (inputs-of start)
 abbrev index-of : Start → ℤ
 index-of start = turnIndexOf (sun-of start) (start .args .place)
 
-place-is : (start : Start) → start .args .place ≡ turnsBy (start .args .leap .now) (sun-of start) (start .args .zone) (eve (start .args .year -ℤ pos 1))
-place-is start = start .pre .1 .1 .1 .0
-
-solstices-ahead : (start : Start) → Ahead (start .args .leap .now) (sun-of start) (start .args .zone) (start .args .place) 3 (start .args .solstices .now)
-solstices-ahead start = start .pre .1 .1 .1 .1 .0
-
 -- ---- what is known at each place
 
 at-range : (c : lts.After-in-range called reads.Pre reads.Post) → c .in-range .result ≡ yearInRange (c .before .args .year)
@@ -89,7 +81,7 @@ at-each : (c : lts.After-one-in-each called reads.Pre reads.Post) → (let start
 at-each c =
     let start = c .before .before .before in
     let a = start .args in
-    (rw (toZ-ofZ (start .fits .year)) at (c .one-in-each .ensures)) ∙ each-is (a .leap .now) (a .sunstart .0) (a .sun .now) (a .zone) (a .year) (solstices-ahead start) (place-is start) (start .pre .0 .sun-ready)
+    (rw (toZ-ofZ (start .fits .year)) at (c .one-in-each .ensures)) ∙ each-is (a .leap .now) (a .sunstart .0) (a .sun .now) (a .zone) (a .year) (start .pre .solstices-ahead) (start .pre .is-place) (start .pre .is-known .sun-ready)
 
 -- ---- there is one solstice in each year
 abbrev Found : Type 0
@@ -102,11 +94,11 @@ found-one : (c : Found) → (let start = start-of c in oneInEach (start .args .l
 found-one c = sym (at-each (c .before)) ∙ not-false (c .before .one-in-each .result) (c .if2 .left)
 
 in-reach : (c : Found) → 1 < length (start-of c .args .solstices .now)
-in-reach c = let start = start-of c in let a = start .args in both-ahead (a .leap .now) (a .sunstart .0) (a .sun .now) (a .zone) (a .year) (solstices-ahead start) (place-is start) (found-one c)
+in-reach c = let start = start-of c in let a = start .args in both-ahead (a .leap .now) (a .sunstart .0) (a .sun .now) (a .zone) (a .year) (start .pre .solstices-ahead) (start .pre .is-place) (found-one c)
 
 -- the index of the first
 index-made : (start : Start) → start .args .suns .first +ℤ pos (24 * start .args .place) ≡ index-of start
-index-made start = ap (λ (t : TurnList). t .first +ℤ pos (24 * start .args .place)) (start .pre .1 .0 .are-turns)
+index-made start = ap (λ (t : TurnList). t .first +ℤ pos (24 * start .args .place)) (start .pre .suns-searched .are-turns)
 
 at-index : (c : lts.After-turn-index called reads.Pre reads.Post) → toZ w64 (ofZ w64 (c .turn-index .result)) ≡ index-of (start-of (c .before .before))
 at-index c =
@@ -133,7 +125,7 @@ returns c =
     let judged = c .before .before in
     let start = judged .before in
     let out = sym (at-range judged) ∙ not-true (judged .in-range .result) (c .before .if1 .taken) in
-    c .no-days .ensures ∙ ap daysAnswer (out-of-range (inputs-of start) (start .args .zone) (start .pre .0) (start .args .year) out)
+    c .no-days .ensures ∙ ap daysAnswer (out-of-range (inputs-of start) (start .args .zone) (start .pre .is-known) (start .args .year) out)
 
 one-in-each-requires : tie.Need-one-in-each-requires
 one-in-each-requires c κs = let start = c .before .before in rw (toZ-ofZ (start .fits .year)) (year-small (start .args .year) (at-year c))
@@ -150,14 +142,14 @@ returns-2 c =
     c .no-days2 .ensures
     ∙ ap daysAnswer
     (refused-then (λ (j : ℤ). daysOf (turnDays (a .leap .now) (moon (inputs-of start)) (a .zone)) (zhongqiFrom (a .leap .now) (sun-of start) (a .zone) j)) (missing-when (a .leap .now) (sun-of start) (a .zone) (a .year) none)
-    ∙ sym (sui-days-are (inputs-of start) (a .zone) (start .pre .0) (a .year) (at-year (judged .before))))
+    ∙ sym (sui-days-are (inputs-of start) (a .zone) (start .pre .is-known) (a .year) (at-year (judged .before))))
 
 turn-index-requires : tie.Need-turn-index-requires
 turn-index-requires c κs =
     let start = start-of (c .before) in
     let a = start .args in
-    let e = start .pre .0 .sun-ready .is-accepted in
-    let listed = both-listed (a .leap .now) (a .sunstart .0) (a .sun .now) (a .zone) (a .year) (solstices-ahead start) (place-is start) (found-one (c .before)) in
+    let e = start .pre .is-known .sun-ready .is-accepted in
+    let listed = both-listed (a .leap .now) (a .sunstart .0) (a .sun .now) (a .zone) (a .year) (start .pre .solstices-ahead) (start .pre .is-place) (found-one (c .before)) in
     let f = fits-of (a .suns .first) (c .struct-told .given .0 .1) in
     (circles-small (sun-of start) e (a .place) (omega arith), rw (toZ-ofZ f, index-made start) (turn-fits (sun-of start) e (a .place) (omega arith)))
 
@@ -175,25 +167,37 @@ zhongqi-days-requires c κs =
     let one = found-one found in
     let f : SFits w64 (getD (a .solstices .now) 0 (pos 0)) = search needs in
     let g : SFits w64 (getD (a .solstices .now) 1 (pos 0)) = search needs in
-    rw (at-index (c .before .before), toZ-ofZ (start .fits .zone), toZ-ofZ f, toZ-ofZ g)
-    (start .pre .0 .sun-ready,
-    (start .pre .1 .0 .zone-small,
-    (turn-after (sun-of start) (a .place),
-    (to-the-last (a .leap .now) (a .sunstart .0) (a .sun .now) (a .zone) (a .year) (solstices-ahead start) (place-is start) one,
-    (first-day (a .leap .now) (a .sunstart .0) (a .sun .now) (a .zone) (a .year) (solstices-ahead start) (place-is start) one,
-    last-day (a .leap .now) (a .sunstart .0) (a .sun .now) (a .zone) (a .year) (solstices-ahead start) (place-is start) one)))))
+    rw (at-index (c .before .before), toZ-ofZ (start .fits .zone), toZ-ofZ f, toZ-ofZ g) (
+      start .pre .is-known .sun-ready,
+      (
+        start .pre .suns-searched .zone-small,
+        (
+          turn-after (sun-of start) (a .place),
+          (
+            to-the-last (a .leap .now) (a .sunstart .0) (a .sun .now) (a .zone) (a .year) (start .pre .solstices-ahead) (start .pre .is-place) one,
+            (
+              first-day (a .leap .now) (a .sunstart .0) (a .sun .now) (a .zone) (a .year) (start .pre .solstices-ahead) (start .pre .is-place) one,
+              last-day (a .leap .now) (a .sunstart .0) (a .sun .now) (a .zone) (a .year) (start .pre .solstices-ahead) (start .pre .is-place) one,
+            ),
+          ),
+        ),
+      ),
+    )
 
 days-within-requires : tie.Need-days-within-requires
 days-within-requires c κs =
     let found = c .before .before .before .before .before in
     let start = start-of found in
     let a = start .args in
-    let listed = both-listed (a .leap .now) (a .sunstart .0) (a .sun .now) (a .zone) (a .year) (solstices-ahead start) (place-is start) (found-one found) in
+    let listed = both-listed (a .leap .now) (a .sunstart .0) (a .sun .now) (a .zone) (a .year) (start .pre .solstices-ahead) (start .pre .is-place) (found-one found) in
     let first = first-is-turn (inputs-of start) (a .zone) (a .place) in
-    rw (toZ-ofZ (start .fits .zone), at-zhongqi c, first)
-    (start .pre .1 .1 .0,
-    (rw first at (solstices-in-order (inputs-of start) (a .zone) (a .place) (start .pre .0) listed),
-    (start .pre .1 .1 .1 .1 .1 .0, start .pre .1 .1 .1 .1 .1 .1)))
+    rw (toZ-ofZ (start .fits .zone), at-zhongqi c, first) (
+      start .pre .moons-searched,
+      (
+        rw first at (solstices-in-order (inputs-of start) (a .zone) (a .place) (start .pre .is-known) listed),
+        (start .pre .some-moons, start .pre .moons-ahead),
+      ),
+    )
 
 returns-3 : tie.Need-returns-3
 returns-3 c =
@@ -203,13 +207,13 @@ returns-3 c =
     let a = start .args in
     let moons = turnDays (a .leap .now) (moon (inputs-of start)) (a .zone) in
     let days : c .days-within .result ≡ daysAnswer (daysOf moons (zhongqi .zhongqi-days .result)) = rw (toZ-ofZ (start .fits .zone)) at (c .days-within .ensures) in
-    let index = ap (turnIndexOf (sun-of start)) (place-is start) in
+    let index = ap (turnIndexOf (sun-of start)) (start .pre .is-place) in
     days
     ∙ ap (λ (l : List ℤ). daysAnswer (daysOf moons l)) (at-zhongqi zhongqi)
     ∙ ap (λ (j : ℤ). daysAnswer (daysOf moons (zhongqiFrom (a .leap .now) (sun-of start) (a .zone) j))) index
     ∙ ap daysAnswer
     (answered-then (λ (j : ℤ). daysOf moons (zhongqiFrom (a .leap .now) (sun-of start) (a .zone) j)) (found-when (a .leap .now) (sun-of start) (a .zone) (a .year) (found-one found))
-    ∙ sym (sui-days-are (inputs-of start) (a .zone) (start .pre .0) (a .year) (at-year (found .before .before))))
+    ∙ sym (sui-days-are (inputs-of start) (a .zone) (start .pre .is-known) (a .year) (at-year (found .before .before))))
 
 pub days-after-spec : {M : Type 1} → statement M
 days-after-spec =

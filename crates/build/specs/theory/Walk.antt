@@ -1,0 +1,162 @@
+-- What the walk over the years asks, and what it holds from year to year. Assumes nothing.
+use mathlib.Core.Path.{_≡_, refl, sym, ap, ap₂, _∙_}
+use mathlib.Core.List.{List, [], _∷_, _++_}
+use Prim.Native.Nat.{ℕ, suc, _+_, _-_, _*_, _/_, _≤_, _<_}
+use native.Mathlib.Omega.{arith}
+use native.Mathlib.Decide.{decLt}
+use native.Mathlib.Nat.{zero-add}
+use lib.IntN.{ℤ, pos, _+ℤ_, _-ℤ_}
+use lib.ListN.{length, drop, length-append}
+use lib.Seq.{length-take-le}
+use Rattle.whole.specs.Lists.{placed, placed-both}
+use Rattle.whole.specs.Solver.{⇑, ring}
+use Rattle.refusals.specs.Verdict.{Verdict, answered, refused, answers-apart}
+use Rattle.series.specs.Series.{Series}
+use Rattle.inputs.specs.Inputs.{Inputs, sun, moon}
+use Rattle.inputs.specs.Known.{Known}
+use Rattle.months.specs.declared.Sui.{Sui}
+use Rattle.turns.specs.declared.inner.TurnList.{TurnList}
+use Rattle.turns.specs.theory.Counting.{by-small}
+use Rattle.turns.specs.Listed.{turnDay, turnsBy, turnsOf}
+use Rattle.turns.specs.Searched.{Searched}
+use Rattle.sui.specs.theory.Solstices.{eve}
+use Rattle.suis.specs.declared.inner.Places.{Places}
+use Rattle.sui.specs.Sui.{suiOfYear}
+use Rattle.suis.specs.Ahead.{Ahead, YearAhead, solsticesBefore}
+use Rattle.suis.specs.theory.Begun.{BegunAt}
+use Rattle.suis.specs.theory.Lookups.{ahead-drop}
+use Rattle.suis.specs.theory.Next.{next-year}
+use Rattle.build.specs.Build.{suisFrom, suiWords, monthWords, monthsIn as months-in}
+use Rattle.build.specs.theory.Put.{yearWords, sui-months, monthsIn}
+use Rattle.build.specs.theory.Words.{length-sui-words, sui-words-snoc, month-words-snoc, length-words-of}
+use Rattle.build.specs.theory.Records.{sui-has-its-months}
+use Rattle.build.specs.theory.Years.{suis-are, suis-next, suis-refused}
+
+-- accepted inputs, the turns of both, where the first sui begins, and 1 to 128 suis
+pub record Begins (i : Inputs) (zone : ℤ) (suns moons : TurnList) (places : Places) (first : ℤ) (n : ℕ) : Type 0 where
+  pub is-known : Known i
+  pub suns-searched : Searched (i .leap) (sun i) zone suns
+  pub moons-searched : Searched (i .leap) (moon i) zone moons
+  pub begins : BegunAt (i .leap) (sun i) (moon i) zone first places
+  pub some-years : 0 < n
+  pub few-years : n ≤ 128
+
+-- and the days ahead: as many as n suis can need, or all that are left
+pub record Walks (i : Inputs) (zone : ℤ) (suns moons : TurnList) (places : Places) (first : ℤ) (n : ℕ) (solstices newmoons : List ℤ) : Type 0 where
+  pub begun : Begins i zone suns moons places first n
+  pub solstices-ahead : Ahead (i .leap) (sun i) zone (places .solstice) (n + 2) solstices
+  pub moons-ahead : Ahead (i .leap) (moon i) zone (places .newmoon) (13 * n + 2) newmoons
+
+-- ---- from year to year: the suis of the years before year j are found, their words are put, and they have `from` months
+pub record Walked (i : Inputs) (zone : ℤ) (places : Places) (first : ℤ) (suis₀ months₀ : List ℤ) (j from : ℕ) (suis months : List ℤ) : Type 0 where
+  pub done : List Sui
+  pub found : suisFrom i zone first j ≡ answered done
+  pub sui-words : suis ≡ placed 0 (suiWords first done) suis₀
+  pub month-words : months ≡ placed 0 (monthWords done) months₀
+  pub counted : length (monthWords done) ≡ 3 * from
+  pub few : from ≤ 13 * j
+  -- where year j begins
+  pub at-place : places .solstice + j ≡ turnsBy (i .leap) (sun i) zone (eve (first +ℤ pos j -ℤ pos 1))
+  pub at-moon : places .newmoon + from + 1 ≡ turnsBy (i .leap) (moon i) zone (turnDay (i .leap) (sun i) zone (places .solstice + j))
+
+module _ (i : Inputs) (zone : ℤ) (suns moons : TurnList) (places : Places) (first : ℤ) (n : ℕ) (b : Begins i zone suns moons places first n) (suis₀ months₀ : List ℤ) where
+  pub walk-starts : Walked i zone places first suis₀ months₀ 0 0 suis₀ months₀
+  unfolding suisFrom suiWords monthWords
+  walk-starts =
+      let at = b .begins in
+      let here : places .solstice + 0 ≡ solsticesBefore (i .leap) (sun i) (moon i) zone first = omega (arith, at .is-place) in
+      record {
+        done = [];
+        found = refl;
+        sui-words = refl;
+        month-words = refl;
+        counted = refl;
+        few = omega arith;
+        at-place = here ∙ ap (λ (y : ℤ). turnsBy (i .leap) (sun i) zone (eve y)) (⇑ (first ∷ []) (search ring depth 9) refl);
+        at-moon = omega (arith, at .is-moon, at .some-moons, ap (λ (k : ℕ). turnsBy (i .leap) (moon i) zone (turnDay (i .leap) (sun i) zone k)) here);
+      }
+
+  module _ {j from : ℕ} {suis months : List ℤ} (w : Walked i zone places first suis₀ months₀ j from suis months) where
+    -- the suis found so far are j
+    pub so-many : length (w .done) ≡ j
+    so-many = suis-are i zone first j (w .found) .all
+
+    pub sui-length : length (suiWords first (w .done)) ≡ 2 * j
+    sui-length = length-sui-words first (w .done) ∙ ap (λ (k : ℕ). 2 * k) so-many
+
+    -- what finding the sui of year j asks
+    pub year-ahead : j < n → {solstices newmoons : List ℤ} → Walks i zone suns moons places first n solstices newmoons → YearAhead i zone suns moons (first +ℤ pos j) (places .solstice + j) (drop j solstices) (drop from newmoons)
+    year-ahead h {solstices} {newmoons} walks =
+        let here = w .at-place in
+        let moon-here = w .at-moon in
+        let few-suns = by-small (turnDay (i .leap) (sun i) zone) (eve (first +ℤ pos j -ℤ pos 1)) (turnsOf (sun i)) in
+        let few-moons = by-small (turnDay (i .leap) (moon i) zone) (turnDay (i .leap) (sun i) zone (places .solstice + j)) (turnsOf (moon i)) in
+        let month-eleven : places .newmoon + from ≡ turnsBy (i .leap) (moon i) zone (turnDay (i .leap) (sun i) zone (places .solstice + j)) - 1 = omega arith in
+        record {
+          is-known = b .is-known;
+          suns-searched = b .suns-searched;
+          moons-searched = b .moons-searched;
+          is-place = here;
+          solstices-ahead = ahead-drop (walks .solstices-ahead) j 3 (reaches (walks .solstices-ahead) j (omega arith) (omega arith)) (omega arith);
+          some-moons = omega arith;
+          moons-ahead = rw (← month-eleven) (ahead-drop (walks .moons-ahead) from 15 (reaches (walks .moons-ahead) from (omega (arith, w .few)) (omega arith)) (omega (arith, w .few)));
+        }
+      where
+        -- a place that is listed, or not too far on, is one of the days ahead
+        reaches : {s : Series} {place most : ℕ} {days : List ℤ} → Ahead (i .leap) s zone place most days → (k : ℕ) → k ≤ most → place + k ≤ turnsOf s → k ≤ length days
+        reaches {s} {place} {most} {days} ahead k h l = go (decLt (length days) most)
+          where
+            go : Dec (length days < most) → k ≤ length days
+            go (yes short) = omega (arith, ahead .enough short)
+            go (no long) = omega arith
+
+    -- the sui of year j is found, and its words are put
+    pub walk-goes-on : {sui : Sui} {suis′ months′ : List ℤ} → suiOfYear i zone (first +ℤ pos j) ≡ answered sui → 2 * (j + 1) ≤ length suis₀ → 3 * from + 39 ≤ length months₀
+        → suis′ ≡ placed (2 * j) (yearWords (first +ℤ pos j) sui) suis → months′ ≡ placed (3 * from) (sui-months sui) months → Walked i zone places first suis₀ months₀ (j + 1) (from + sui .count) suis′ months′
+    walk-goes-on {sui} {suis′} {months′} e room rooms e₁ e₂ =
+        let year = first +ℤ pos j in
+        let next = next-year i zone (b .is-known) year e in
+        let here = w .at-place in
+        let later : places .solstice + (j + 1) ≡ suc (turnsBy (i .leap) (sun i) zone (eve (year -ℤ pos 1))) = omega arith in
+        let same-year : year ≡ first +ℤ pos (j + 1) -ℤ pos 1 = ⇑ (first ∷ pos j ∷ []) (search ring depth 9) refl in
+        let one-more : j + 1 ≡ suc j = omega arith in
+        let day = turnDay (i .leap) (sun i) zone in
+        let by = turnsBy (i .leap) (moon i) zone in
+        let has : length (sui-months sui) ≡ 3 * sui .count = length-words-of (months-in sui) ∙ ap (λ (k : ℕ). 3 * k) (length-take-le (sui .count) (sui .months) (sui-has-its-months i zone year e)) in
+        let at-record : 2 * j ≡ 0 + length (suiWords first (w .done)) = omega (arith, sui-length) in
+        let at-months : 3 * from ≡ 0 + length (monthWords (w .done)) = omega (arith, w .counted) in
+        let numbered : suiWords first (w .done) ++ yearWords year sui ≡ suiWords first (w .done ++ (sui ∷ [])) = ap (λ (k : ℕ). suiWords first (w .done) ++ yearWords (first +ℤ pos k) sui) (sym so-many) ∙ sym (sui-words-snoc first (w .done) sui) in
+        record {
+          done = w .done ++ (sui ∷ []);
+          found = ap (suisFrom i zone first) one-more ∙ suis-next i zone first j (w .found) e;
+          sui-words =
+              e₁ ∙ ap₂ (λ (k : ℕ) (x : List ℤ). placed k (yearWords year sui) x) at-record (w .sui-words)
+              ∙ placed-both suis₀ (suiWords first (w .done)) 0 (yearWords year sui) (omega (arith, sui-length))
+              ∙ ap (λ (x : List ℤ). placed 0 x suis₀) numbered;
+          month-words =
+              e₂ ∙ ap₂ (λ (k : ℕ) (x : List ℤ). placed k (sui-months sui) x) at-months (w .month-words)
+              ∙ placed-both months₀ (monthWords (w .done)) 0 (sui-months sui) (omega (arith, w .counted, has, next .thirteen-at-most))
+              ∙ ap (λ (x : List ℤ). placed 0 x months₀) (sym (month-words-snoc (w .done) sui));
+          counted = ap length (month-words-snoc (w .done) sui) ∙ length-append (monthWords (w .done)) (sui-months sui) ∙ omega (arith, w .counted, has);
+          few = omega (arith, w .few, next .thirteen-at-most);
+          at-place = later ∙ sym (next .next-place) ∙ ap (λ (y : ℤ). turnsBy (i .leap) (sun i) zone (eve y)) same-year;
+          at-moon = omega (arith, w .at-moon, next .next-by, ap (λ (k : ℕ). by (day k)) later, ap (λ (k : ℕ). by (day k)) here);
+        }
+
+  -- all are found
+  pub walk-ends : {from : ℕ} {suis months : List ℤ} (w : Walked i zone places first suis₀ months₀ n from suis months) → (answered from ≡ monthsIn (suisFrom i zone first n)) × (((found : List Sui) → suisFrom i zone first n ≡ answered found → suis ≡ suiWords first found ++ drop (length (suiWords first found)) suis₀) × ((found : List Sui) → suisFrom i zone first n ≡ answered found → months ≡ monthWords found ++ drop (length (monthWords found)) months₀))
+  walk-ends {from} {suis} {months} w =
+      let all : length (monthWords (w .done)) / 3 ≡ from = omega (arith, w .counted) in (
+        sym (ap monthsIn (w .found) ∙ ap answered all),
+        (
+          λ found e. w .sui-words ∙ ap (λ (l : List Sui). placed 0 (suiWords first l) suis₀) (same w found e) ∙ ap (λ (k : ℕ). suiWords first found ++ drop k suis₀) (zero-add (length (suiWords first found))),
+          λ found e. w .month-words ∙ ap (λ (l : List Sui). placed 0 (monthWords l) months₀) (same w found e) ∙ ap (λ (k : ℕ). monthWords found ++ drop k months₀) (zero-add (length (monthWords found))),
+        ),
+      )
+    where
+      same : {from : ℕ} {suis months : List ℤ} (w : Walked i zone places first suis₀ months₀ n from suis months) (found : List Sui) → suisFrom i zone first n ≡ answered found → w .done ≡ found
+      same w found e = answers-apart (sym (w .found) ∙ e)
+
+  -- one is refused
+  pub walk-stops : {j from : ℕ} {suis months : List ℤ} {number segment : ℕ} (w : Walked i zone places first suis₀ months₀ j from suis months) → suiOfYear i zone (first +ℤ pos j) ≡ refused number segment → j < n → suisFrom i zone first n ≡ refused number segment
+  walk-stops {j} w e h = suis-refused i zone first j n (w .found) e h

@@ -1,0 +1,154 @@
+// The days of the solstices and new moons that the suis share, found once and kept; and the records of the suis, kept until they are written.
+use super::years::YearsAnswer;
+use super::years::put_years;
+use almanac::WriteAnswer;
+use almanac::inner::write_lawful;
+use series::Body;
+use suis::inner::Places;
+use suis::inner::days_ahead;
+use suis::inner::fewer;
+use times::Second;
+use turns::inner::TurnList;
+ghost use mathlib.Core.Path.{_≡_};
+ghost use Prim.Native.Nat.{_+_, _*_, _≤_, _<_};
+ghost use lib.ListN.{length};
+ghost use Rattle.refusals.specs.Lent.{writtenInto};
+ghost use Rattle.inputs.specs.Inputs.{inputs};
+ghost use Rattle.almanac.specs.Answers.{paperWritten, bytesCounted, all-bytes};
+ghost use Rattle.build.specs.Build.{bytesOfYears};
+ghost use Rattle.build.specs.theory.Walk.{Begins, Walks};
+
+// Room for the days ahead of 128 suis: a solstice each and two more, thirteen new moons each and two more.
+fn solstice_days() -> [i64; 130]
+    ensures { λ r. ⌜ 130 ≡ length r ⌝ }
+{
+    [0; 130]
+}
+
+fn newmoon_days() -> [i64; 1666]
+    ensures { λ r. ⌜ 1666 ≡ length r ⌝ }
+{
+    [0; 1666]
+}
+
+// Room for their records: two words a sui, three a month.
+fn sui_words() -> [i64; 256]
+    ensures { λ r. ⌜ 256 ≡ length r ⌝ }
+{
+    [0; 256]
+}
+
+fn month_words() -> [i64; 4992]
+    ensures { λ r. ⌜ 4992 ≡ length r ⌝ }
+{
+    [0; 4992]
+}
+
+// The file, by the days ahead.
+fn build_from(
+    leap: &[i64],
+    sunstart: Second,
+    sun: &[i64],
+    moonstart: Second,
+    moon: &[i64],
+    zone: i64,
+    suns: TurnList,
+    moons: TurnList,
+    places: Places,
+    first: i64,
+    n: usize,
+    solstices: &[i64],
+    newmoons: &[i64],
+    file: &mut [u8],
+) -> WriteAnswer
+    requires { ⌜ Walks (inputs (now leap) (sunstart .0) (now sun) (moonstart .0) (now moon)) zone suns moons places first n (now solstices) (now newmoons) ⌝ }
+    ensures { λ r. ⌜ paperWritten r ≡ bytesCounted (bytesOfYears (inputs (now (leap .entry)) (sunstart .0) (now (sun .entry)) (moonstart .0) (now (moon .entry))) zone first n (length (now (file .entry)))) ⌝ }
+    ensures { λ r. ⌜ now (file .exit) ≡ writtenInto (bytesOfYears (inputs (now (leap .entry)) (sunstart .0) (now (sun .entry)) (moonstart .0) (now (moon .entry))) zone first n (length (now (file .entry)))) all-bytes (now (file .entry)) ⌝ }
+{
+    let mut suis = sui_words();
+    let mut months = month_words();
+    let judged = put_years(
+        leap,
+        sunstart,
+        sun,
+        moonstart,
+        moon,
+        zone,
+        suns,
+        moons,
+        places,
+        first,
+        n,
+        solstices,
+        newmoons,
+        &mut suis,
+        &mut months,
+    );
+    match judged {
+        YearsAnswer::Refused(r) => WriteAnswer::Refused(r),
+        YearsAnswer::Years(m) => write_lawful(leap, &suis[..2 * n], &months[..3 * m], file),
+    }
+}
+
+// The file, by where the first sui begins.
+pub fn build_at(
+    leap: &[i64],
+    sunstart: Second,
+    sun: &[i64],
+    moonstart: Second,
+    moon: &[i64],
+    zone: i64,
+    suns: TurnList,
+    moons: TurnList,
+    places: Places,
+    first: i64,
+    n: usize,
+    file: &mut [u8],
+) -> WriteAnswer
+    requires { ⌜ Begins (inputs (now leap) (sunstart .0) (now sun) (moonstart .0) (now moon)) zone suns moons places first n ⌝ }
+    ensures { λ r. ⌜ paperWritten r ≡ bytesCounted (bytesOfYears (inputs (now (leap .entry)) (sunstart .0) (now (sun .entry)) (moonstart .0) (now (moon .entry))) zone first n (length (now (file .entry)))) ⌝ }
+    ensures { λ r. ⌜ now (file .exit) ≡ writtenInto (bytesOfYears (inputs (now (leap .entry)) (sunstart .0) (now (sun .entry)) (moonstart .0) (now (moon .entry))) zone first n (length (now (file .entry)))) all-bytes (now (file .entry)) ⌝ }
+{
+    let s = fewer(suns.count, places.solstice, n + 2);
+    let mut solstices = solstice_days();
+    days_ahead(
+        leap,
+        Body::Sun,
+        sunstart,
+        sun,
+        zone,
+        suns,
+        places.solstice,
+        s,
+        &mut solstices,
+    );
+    let m = fewer(moons.count, places.newmoon, 13 * n + 2);
+    let mut newmoons = newmoon_days();
+    days_ahead(
+        leap,
+        Body::Moon,
+        moonstart,
+        moon,
+        zone,
+        moons,
+        places.newmoon,
+        m,
+        &mut newmoons,
+    );
+    build_from(
+        leap,
+        sunstart,
+        sun,
+        moonstart,
+        moon,
+        zone,
+        suns,
+        moons,
+        places,
+        first,
+        n,
+        &solstices[..s],
+        &newmoons[..m],
+        file,
+    )
+}
