@@ -8,4 +8,5 @@ pub mod Leaps
 pub mod Lawful
 pub mod Put
 pub mod Stored
+pub mod Answered
 pub mod Walk

@@ -11,7 +11,7 @@ use whole::inner::add;
 use whole::inner::signed;
 ghost use mathlib.Core.Path.{_≡_};
 ghost use mathlib.Core.List.{List, [], _∷_, _++_};
-ghost use Prim.Native.Nat.{_+_, _*_, _≤_};
+ghost use Prim.Native.Nat.{_+_, _*_, _≤_, _<_};
 ghost use lib.IntN.{pos};
 ghost use lib.ListN.{length, drop};
 ghost use Rattle.inputs.specs.Inputs.{inputs};
@@ -55,6 +55,8 @@ fn put_year(
     months: &mut [i64],
 ) -> YearAnswer
     requires { ⌜ YearAhead (inputs (now leap) (sunstart .0) (now sun) (moonstart .0) (now moon)) zone suns moons year place (now solstices) (now newmoons) ⌝ }
+    requires { ⌜ j < 128 ⌝ }
+    requires { ⌜ from ≤ 1664 ⌝ }
     requires { ⌜ 2 * j + 2 ≤ length (now suis) ⌝ }
     requires { ⌜ 3 * from + 39 ≤ length (now months) ⌝ }
     ensures { λ r. ⌜ paperYear r ≡ monthsOf (suiOfYear (inputs (now (leap .entry)) (sunstart .0) (now (sun .entry)) (moonstart .0) (now (moon .entry))) zone year) ⌝ }

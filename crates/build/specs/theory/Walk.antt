@@ -8,7 +8,7 @@ use native.Mathlib.Nat.{zero-add}
 use lib.IntN.{ℤ, pos, _+ℤ_, _-ℤ_}
 use lib.ListN.{length, drop, length-append}
 use lib.Seq.{length-take-le}
-use Rattle.whole.specs.Lists.{placed, placed-both}
+use Rattle.whole.specs.Lists.{placed, placed-both, placed-length}
 use Rattle.whole.specs.Solver.{⇑, ring}
 use Rattle.refusals.specs.Verdict.{Verdict, answered, refused, answers-apart}
 use Rattle.series.specs.Series.{Series}
@@ -59,6 +59,14 @@ pub record Walked (i : Inputs) (zone : ℤ) (places : Places) (first : ℤ) (sui
   pub at-place : places .solstice + j ≡ turnsBy (i .leap) (sun i) zone (eve (first +ℤ pos j -ℤ pos 1))
   pub at-moon : places .newmoon + from + 1 ≡ turnsBy (i .leap) (moon i) zone (turnDay (i .leap) (sun i) zone (places .solstice + j))
 
+-- a place that is listed, and not too far on, is one of the days ahead
+reaches : {leap : List ℤ} {s : Series} {zone : ℤ} {place most : ℕ} {days : List ℤ} → Ahead leap s zone place most days → (k : ℕ) → k ≤ most → place + k ≤ turnsOf s → k ≤ length days
+reaches {leap} {s} {zone} {place} {most} {days} ahead k h l = go (decLt (length days) most)
+  where
+    go : Dec (length days < most) → k ≤ length days
+    go (yes short) = omega (arith, ahead .enough short)
+    go (no long) = omega arith
+
 module _ (i : Inputs) (zone : ℤ) (suns moons : TurnList) (places : Places) (first : ℤ) (n : ℕ) (b : Begins i zone suns moons places first n) (suis₀ months₀ : List ℤ) where
   pub walk-starts : Walked i zone places first suis₀ months₀ 0 0 suis₀ months₀
   unfolding suisFrom suiWords monthWords
@@ -84,32 +92,34 @@ module _ (i : Inputs) (zone : ℤ) (suns moons : TurnList) (places : Places) (fi
     pub sui-length : length (suiWords first (w .done)) ≡ 2 * j
     sui-length = length-sui-words first (w .done) ∙ ap (λ (k : ℕ). 2 * k) so-many
 
+    pub solstices-reach : j < n → {solstices newmoons : List ℤ} → Walks i zone suns moons places first n solstices newmoons → j ≤ length solstices
+    solstices-reach h walks = reaches (walks .solstices-ahead) j (omega arith) (omega (arith, w .at-place, by-small (turnDay (i .leap) (sun i) zone) (eve (first +ℤ pos j -ℤ pos 1)) (turnsOf (sun i))))
+
+    pub moons-reach : j < n → {solstices newmoons : List ℤ} → Walks i zone suns moons places first n solstices newmoons → from ≤ length newmoons
+    moons-reach h walks = reaches (walks .moons-ahead) from (omega (arith, w .few)) (omega (arith, w .at-moon, by-small (turnDay (i .leap) (moon i) zone) (turnDay (i .leap) (sun i) zone (places .solstice + j)) (turnsOf (moon i))))
+
+    -- nothing is made longer or shorter
+    pub sui-room : 2 * n ≤ length suis₀ → j ≤ n → length suis ≡ length suis₀
+    sui-room room h = ap length (w .sui-words) ∙ placed-length suis₀ (suiWords first (w .done)) 0 (omega (arith, sui-length))
+
+    pub month-room : 39 * n ≤ length months₀ → j ≤ n → length months ≡ length months₀
+    month-room room h = ap length (w .month-words) ∙ placed-length months₀ (monthWords (w .done)) 0 (omega (arith, w .counted, w .few))
+
     -- what finding the sui of year j asks
     pub year-ahead : j < n → {solstices newmoons : List ℤ} → Walks i zone suns moons places first n solstices newmoons → YearAhead i zone suns moons (first +ℤ pos j) (places .solstice + j) (drop j solstices) (drop from newmoons)
     year-ahead h {solstices} {newmoons} walks =
         let here = w .at-place in
         let moon-here = w .at-moon in
-        let few-suns = by-small (turnDay (i .leap) (sun i) zone) (eve (first +ℤ pos j -ℤ pos 1)) (turnsOf (sun i)) in
-        let few-moons = by-small (turnDay (i .leap) (moon i) zone) (turnDay (i .leap) (sun i) zone (places .solstice + j)) (turnsOf (moon i)) in
         let month-eleven : places .newmoon + from ≡ turnsBy (i .leap) (moon i) zone (turnDay (i .leap) (sun i) zone (places .solstice + j)) - 1 = omega arith in
         record {
           is-known = b .is-known;
           suns-searched = b .suns-searched;
           moons-searched = b .moons-searched;
           is-place = here;
-          solstices-ahead = ahead-drop (walks .solstices-ahead) j 3 (reaches (walks .solstices-ahead) j (omega arith) (omega arith)) (omega arith);
+          solstices-ahead = ahead-drop (walks .solstices-ahead) j 3 (solstices-reach h walks) (omega arith);
           some-moons = omega arith;
-          moons-ahead = rw (← month-eleven) (ahead-drop (walks .moons-ahead) from 15 (reaches (walks .moons-ahead) from (omega (arith, w .few)) (omega arith)) (omega (arith, w .few)));
+          moons-ahead = rw (← month-eleven) (ahead-drop (walks .moons-ahead) from 15 (moons-reach h walks) (omega (arith, w .few)));
         }
-      where
-        -- a place that is listed, or not too far on, is one of the days ahead
-        reaches : {s : Series} {place most : ℕ} {days : List ℤ} → Ahead (i .leap) s zone place most days → (k : ℕ) → k ≤ most → place + k ≤ turnsOf s → k ≤ length days
-        reaches {s} {place} {most} {days} ahead k h l = go (decLt (length days) most)
-          where
-            go : Dec (length days < most) → k ≤ length days
-            go (yes short) = omega (arith, ahead .enough short)
-            go (no long) = omega arith
-
     -- the sui of year j is found, and its words are put
     pub walk-goes-on : {sui : Sui} {suis′ months′ : List ℤ} → suiOfYear i zone (first +ℤ pos j) ≡ answered sui → 2 * (j + 1) ≤ length suis₀ → 3 * from + 39 ≤ length months₀
         → suis′ ≡ placed (2 * j) (yearWords (first +ℤ pos j) sui) suis → months′ ≡ placed (3 * from) (sui-months sui) months → Walked i zone places first suis₀ months₀ (j + 1) (from + sui .count) suis′ months′
@@ -144,19 +154,25 @@ module _ (i : Inputs) (zone : ℤ) (suns moons : TurnList) (places : Places) (fi
         }
 
   -- all are found
-  pub walk-ends : {from : ℕ} {suis months : List ℤ} (w : Walked i zone places first suis₀ months₀ n from suis months) → (answered from ≡ monthsIn (suisFrom i zone first n)) × (((found : List Sui) → suisFrom i zone first n ≡ answered found → suis ≡ suiWords first found ++ drop (length (suiWords first found)) suis₀) × ((found : List Sui) → suisFrom i zone first n ≡ answered found → months ≡ monthWords found ++ drop (length (monthWords found)) months₀))
-  walk-ends {from} {suis} {months} w =
+  pub walk-ends : {j from : ℕ} {suis months : List ℤ} (w : Walked i zone places first suis₀ months₀ j from suis months) → j ≡ n → (answered from ≡ monthsIn (suisFrom i zone first n)) × (((found : List Sui) → suisFrom i zone first n ≡ answered found → suis ≡ suiWords first found ++ drop (length (suiWords first found)) suis₀) × ((found : List Sui) → suisFrom i zone first n ≡ answered found → months ≡ monthWords found ++ drop (length (monthWords found)) months₀))
+  walk-ends {j} {from} {suis} {months} w e =
+      let all-found : suisFrom i zone first n ≡ answered (w .done) = ap (suisFrom i zone first) (sym e) ∙ w .found in
       let all : length (monthWords (w .done)) / 3 ≡ from = omega (arith, w .counted) in (
-        sym (ap monthsIn (w .found) ∙ ap answered all),
+        sym (ap monthsIn all-found ∙ ap answered all),
         (
-          λ found e. w .sui-words ∙ ap (λ (l : List Sui). placed 0 (suiWords first l) suis₀) (same w found e) ∙ ap (λ (k : ℕ). suiWords first found ++ drop k suis₀) (zero-add (length (suiWords first found))),
-          λ found e. w .month-words ∙ ap (λ (l : List Sui). placed 0 (monthWords l) months₀) (same w found e) ∙ ap (λ (k : ℕ). monthWords found ++ drop k months₀) (zero-add (length (monthWords found))),
+          λ found q. w .sui-words ∙ ap (λ (l : List Sui). placed 0 (suiWords first l) suis₀) (answers-apart (sym all-found ∙ q)) ∙ ap (λ (k : ℕ). suiWords first found ++ drop k suis₀) (zero-add (length (suiWords first found))),
+          λ found q. w .month-words ∙ ap (λ (l : List Sui). placed 0 (monthWords l) months₀) (answers-apart (sym all-found ∙ q)) ∙ ap (λ (k : ℕ). monthWords found ++ drop k months₀) (zero-add (length (monthWords found))),
         ),
       )
-    where
-      same : {from : ℕ} {suis months : List ℤ} (w : Walked i zone places first suis₀ months₀ n from suis months) (found : List Sui) → suisFrom i zone first n ≡ answered found → w .done ≡ found
-      same w found e = answers-apart (sym (w .found) ∙ e)
 
   -- one is refused
   pub walk-stops : {j from : ℕ} {suis months : List ℤ} {number segment : ℕ} (w : Walked i zone places first suis₀ months₀ j from suis months) → suiOfYear i zone (first +ℤ pos j) ≡ refused number segment → j < n → suisFrom i zone first n ≡ refused number segment
   walk-stops {j} w e h = suis-refused i zone first j n (w .found) e h
+
+-- ---- what the loop over the years holds, before year j
+pub record AtYear (i : Inputs) (zone : ℤ) (suns moons : TurnList) (first : ℤ) (n : ℕ) (solstices newmoons suis₀ months₀ : List ℤ) (place j from : ℕ) (suis months : List ℤ) : Type 0 where
+  pub places : Places
+  pub walks : Walks i zone suns moons places first n solstices newmoons
+  pub is-place : places .solstice ≡ place
+  pub walked : Walked i zone places first suis₀ months₀ j from suis months
+  pub in-turn : j ≤ n
