@@ -9,10 +9,8 @@ use borrow.Author.Tests.{not-false}
 use lib.Dec.{ltb}
 use lib.IntN.{ℤ, pos, natAbs, _+ℤ_}
 use lib.ListN.{length}
-use Rattle.whole.specs.Laws.{≤-trans, abs-of-nonneg}
-use Rattle.whole.specs.Parts.{_⩽_, ℤ-rules}
 use Rattle.whole.specs.Ranges.{Within}
-use Rattle.whole.specs.Tests.{inRange, in-range-says}
+use Rattle.whole.specs.Tests.{inRange}
 use Rattle.refusals.specs.Verdict.{Verdict, answered, refuseWhen, _before_, _then_, then-answered, test-answered, answers-apart, one-result, one-content}
 use Rattle.refusals.specs.Lent.{writtenInto}
 use Rattle.inputs.specs.Inputs.{Inputs, InputsAccepted}
@@ -33,6 +31,7 @@ use Rattle.build.specs.Build.{suisFrom, suiWords, contentFor, contentBui
 use Rattle.build.specs.theory.Words.{length-sui-words}
 use Rattle.build.specs.theory.Years.{suis-are}
 use Rattle.build.specs.theory.Records.{suiAt, suis-whole, year-at, count-at, month-at}
+use Rattle.build.specs.theory.Count.{count-small}
 use Rattle.build.specs.theory.Lawful.{content-is-lawful}
 
 -- a content that was built is that of the suis that were found
@@ -104,14 +103,11 @@ built-is-read i zone first count room {bytes} e small =
     let rest = contentBuilt i zone first n then λ c. bytesInto c room in
     let judged = inputs-answered i (refuseWhen (not (inRange (pos 1) (pos 128) count)) 8 before rest) e in
     let counted = test-answered (not (inRange (pos 1) (pos 128) count)) 8 rest bytes (judged .1) in
-    let range = in-range-says (pos 1) (pos 128) count (not-false (inRange (pos 1) (pos 128) count) (counted .0)) in
-    let is : pos n ≡ count = abs-of-nonneg {a = count} (≤-trans {a = pos 0} {b = pos 1} {c = count} (omega ℤ-rules) (range .0)) in
-    let low : pos 1 ⩽ pos n = rw is (range .0) in
-    let high : pos n ⩽ pos 128 = rw is (range .1) in
+    let few = count-small count (not-false (inRange (pos 1) (pos 128) count) (counted .0)) in
     let made = then-answered (contentBuilt i zone first n) (λ c. bytesInto c room) bytes (counted .1) in
     let c = made .0 in
     let written : bytesOf c ≡ bytes = answers-apart (test-answered (ltb room (length (bytesOf c))) 12 (answered (bytesOf c)) bytes (made .2) .1) in
-    let keeps = built-is-lawful i zone (known i (judged .0)) small first n (omega ℤ-rules) (omega ℤ-rules) (made .1) in
+    let keeps = built-is-lawful i zone (known i (judged .0)) small first n (few .0) (few .1) (made .1) in
     record { content = c; is-content = made .1; is-written = sym written; is-read = ap fileOf (sym written) ∙ written-is-read c keeps }
 
 -- ---- one result: any two answers that the build may give are the same, and so is what the lent file holds

@@ -1,3 +1,16 @@
+-- `build::build` meets its contract. In the needs, `start` is the function's entry. Assumes nothing.
+use mathlib.Core.Path.{_≡_, sym, ap, _∙_}
+use mathlib.Core.Bool.{true}
+use borrow.Author.Tests.{not-true, not-false}
+use lib.IntN.{pos, natAbs}
+use mir.Facts.{toZ-ofZ}
+use Rattle.whole.specs.Ranges.{Within, within, bounds}
+use Rattle.whole.specs.Tests.{inRange}
+use Rattle.refusals.specs.Verdict.{paperCheck, accepted-is}
+use Rattle.clock.specs.Clock.{utc8}
+use Rattle.inputs.specs.Inputs.{Inputs, inputs, InputsAccepted}
+use Rattle.inputs.specs.Theorems.{known}
+use Rattle.build.specs.theory.Count.{count-natural, count-small, inputs-refused, count-refused, years-built}
 use borrow.Author.Needs.{needs}
 use Rattle.build.proofs.build.Statement.{statement}
 use Rattle.build.proofs.build.Tie as tie
@@ -8,44 +21,88 @@ use Rattle.inputs.proofs.judge.Reads as judge-reads
 use Rattle.whole.proofs.inner.count.Reads as count-reads
 use Rattle.whole.proofs.inner.in_range.Reads as in-range-reads
 
--- src/lib.rt:33:9
+abbrev called : lts.Claims
+called = (
+  judge-reads.Asked,
+  judge-reads.Learnt,
+  in-range-reads.Asked,
+  in-range-reads.Learnt,
+  count-reads.Asked,
+  count-reads.Learnt,
+  build-in-reads.Asked,
+  build-in-reads.Learnt,
+)
+
+abbrev Start : Type 0
+Start = lts.Start called reads.Pre reads.Post
+
+abbrev inputs-of : Start → Inputs
+inputs-of start = let a = start .args in inputs (a .leap .now) (a .sunstart .0) (a .sun .now) (a .moonstart .0) (a .moon .now)
+
+-- ---- what is known at each place
+at-judged : (c : lts.After-enum-told called reads.Pre reads.Post) → InputsAccepted (inputs-of (c .before .before .before .before))
+at-judged c = accepted-is (c .before .before .judge .ensures) (c .enum-told .given .1)
+
+at-range : (c : lts.After-in-range called reads.Pre reads.Post) → c .in-range .result ≡ inRange (pos 1) (pos 128) (c .before .before .before .before .before .args .count)
+at-range c = rw (toZ-ofZ (c .before .before .before .before .before .fits .count)) at (c .in-range .ensures)
+
+at-few : (c : lts.Else1 called reads.Pre reads.Post) → inRange (pos 1) (pos 128) (c .before .before .before .before .before .before .args .count) ≡ true
+at-few c = sym (at-range (c .before)) ∙ not-false (c .before .in-range .result) (c .if1 .left)
+
+at-count : (c : lts.After-count called reads.Pre reads.Post) → c .count .result ≡ natAbs (c .before .before .before .before .before .before .before .args .count)
+at-count c = ap natAbs (rw (toZ-ofZ (c .before .before .before .before .before .before .before .fits .count)) at (c .count .ensures))
+
+-- ---- the needs
+
 judge-requires : tie.Need-judge-requires
 judge-requires c κs = search needs
 
--- src/lib.rt:34:27
 enum-known-check : tie.Need-enum-known-check
 enum-known-check c = search needs
 
--- src/lib.rt:35:9
 returns : tie.Need-returns
-returns c = ?
+returns c =
+    let judged = c .before .before .before in
+    let start = judged .before .before in
+    let a = start .args in
+    inputs-refused (inputs-of start) utc8 (a .first) (a .count) (a .file .now) (sym (judged .judge .ensures) ∙ ap paperCheck (c .before .check .given .1))
 
 enum-told : tie.Need-enum-told
 enum-told c = search needs
 
--- src/lib.rt:37:9
 in-range-requires : tie.Need-in-range-requires
 in-range-requires c κs = search needs
 
--- src/lib.rt:38:9
 returns-2 : tie.Need-returns-2
-returns-2 c = ?
+returns-2 c =
+    let judged = c .before .before in
+    let start = judged .before .before .before .before in
+    let a = start .args in
+    count-refused (inputs-of start) utc8 (a .first) (a .count) (a .file .now) (at-judged judged) (sym (at-range (c .before)) ∙ not-true (c .before .in-range .result) (c .if1 .taken))
 
--- src/lib.rt:40:9
 count-requires : tie.Need-count-requires
-count-requires c κs = ?
+count-requires c κs = let start = c .before .before .before .before .before .before in rw (toZ-ofZ (start .fits .count)) (count-natural (start .args .count) (at-few c))
 
--- src/lib.rt:41:5
 build-in-requires : tie.Need-build-in-requires
-build-in-requires c κs = ?
+build-in-requires c κs =
+    let counted = c .before in
+    let few = counted .before in
+    let judged = few .before .before in
+    let start = judged .before .before .before .before in
+    rw (at-count counted) (known (inputs-of start) (at-judged judged), (within (search bounds) tt, count-small (start .args .count) (at-few few)))
 
--- src/lib.rt:20:1
 same-length : tie.Need-same-length
 same-length c = search needs
 
--- src/lib.rt:20:1
 returns-3 : tie.Need-returns-3
-returns-3 c = ?
+returns-3 c =
+    let built = c .before .before in
+    let counted = built .before .before in
+    let few = counted .before in
+    let judged = few .before .before in
+    let start = judged .before .before .before .before in
+    let a = start .args in
+    years-built (inputs-of start) utc8 (a .first) (a .count) (a .file .now) (at-judged judged) (at-few few) (rw (at-count counted, toZ-ofZ (start .fits .first)) at (built .build-in .ensures))
 
 pub build-spec : {M : Type 1} → statement M
 build-spec =

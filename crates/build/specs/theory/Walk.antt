@@ -120,6 +120,7 @@ module _ (i : Inputs) (zone : ℤ) (suns moons : TurnList) (places : Places) (fi
           some-moons = omega arith;
           moons-ahead = rw (← month-eleven) (ahead-drop (walks .moons-ahead) from 15 (moons-reach h walks) (omega (arith, w .few)));
         }
+
     -- the sui of year j is found, and its words are put
     pub walk-goes-on : {sui : Sui} {suis′ months′ : List ℤ} → suiOfYear i zone (first +ℤ pos j) ≡ answered sui → 2 * (j + 1) ≤ length suis₀ → 3 * from + 39 ≤ length months₀
         → suis′ ≡ placed (2 * j) (yearWords (first +ℤ pos j) sui) suis → months′ ≡ placed (3 * from) (sui-months sui) months → Walked i zone places first suis₀ months₀ (j + 1) (from + sui .count) suis′ months′

@@ -1,15 +1,15 @@
 -- What the days ahead of a place tell: each is a turn's day, and `oneMore` of them is a count of all turns. Assumes nothing.
 use mathlib.Core.Path.{_≡_, refl, sym, ap, _∙_}
-use mathlib.Core.Bool.{Bool, true, false, not, _&&_, _||_}
-use mathlib.Core.List.{List, [], append-nil}
+use mathlib.Core.Bool.{Bool, true, false, cond, not, _&&_, _||_}
+use mathlib.Core.List.{List, [], _++_, append-nil}
 use Prim.Native.Nat.{ℕ, _+_, _-_, _≤_, _<_}
 use native.Mathlib.Omega.{arith}
 use native.Mathlib.Decide.{decLt}
 use borrow.Author.Tests.{eq-eqb, ne-eqb, ltb-true, ltb-false, leb-true, leb-false, lt-ltb, le-ltb}
 use lib.Dec.{eqb, leb, ltb}
 use lib.IntN.{ℤ, pos, _+ℤ_, _-ℤ_}
-use lib.ListN.{length, getD, drop, length-drop}
-use lib.Seq.{take-all}
+use lib.ListN.{length, getD, take, drop, length-drop}
+use lib.Seq.{take-all, take-at}
 use lib.Signed.{ltZ}
 use Rattle.whole.specs.Solver.{lt-yes, lt-no}
 use Rattle.whole.specs.Tabulated.{tabulate, length-tabulate, getD-tabulate}
@@ -18,7 +18,7 @@ use Rattle.series.specs.Series.{Series}
 use Rattle.inputs.specs.Known.{Ready}
 use Rattle.turns.specs.theory.Counting.{Rises, by-small, is-by, is-after}
 use Rattle.turns.specs.Listed.{turnDay, turnsOf, turnsBy, turn-days-rise}
-use Rattle.suis.specs.Ahead.{Ahead, oneMore}
+use Rattle.suis.specs.Ahead.{Ahead, oneMore, fewer}
 
 module _ {leap : List ℤ} {s : Series} {zone : ℤ} {from few : ℕ} {days : List ℤ} (ahead : Ahead leap s zone from few days) where
   -- day j is that of a turn
@@ -87,3 +87,29 @@ ahead-drop {leap} {s} {zone} {from} {few} {days} ahead j fewer h l =
   where
     f : ℕ → ℤ
     f k = turnDay leap s zone (from + k)
+
+-- ---- as many as there are, up to so many
+pub record Fewer (listed from most few : ℕ) : Type 0 where
+  pub listed-all : from + few ≤ listed
+  pub not-more : few ≤ most
+  pub or-all : few < most → from + few ≡ listed
+
+pub fewer-says : (listed from most : ℕ) → from ≤ listed → Fewer listed from most (fewer listed from most)
+unfolding fewer
+fewer-says listed from most h = go (ltb (listed - from) most) refl
+  where
+    go : (b : Bool) → ltb (listed - from) most ≡ b → Fewer listed from most (cond b (listed - from) most)
+    go true e = let less = ltb-true (listed - from) most e in record { listed-all = omega arith; not-more = omega arith; or-all = λ l. omega arith }
+    go false e = let more = ltb-false (listed - from) most e in record { listed-all = omega arith; not-more = omega arith; or-all = λ l. absurd (omega arith) }
+
+-- what was filled from the front with days is the days ahead
+pub ahead-made : {leap : List ℤ} {s : Series} {zone : ℤ} {from most few : ℕ} {out : List ℤ} (out₀ : List ℤ) → Fewer (turnsOf s) from most few → out ≡ tabulate (λ k. turnDay leap s zone (from + k)) few ++ drop few out₀ → Ahead leap s zone from most (take few out)
+ahead-made {leap} {s} {zone} {from} {most} {few} {out} out₀ f e =
+    let days = tabulate (λ k. turnDay leap s zone (from + k)) few in
+    let front : take few out ≡ days = ap (take few) e ∙ take-at days (drop few out₀) few (length-tabulate (λ k. turnDay leap s zone (from + k)) few) in
+    let long : few ≡ length (take few out) = sym (ap length front ∙ length-tabulate (λ k. turnDay leap s zone (from + k)) few) in
+    record {
+      are-days = front ∙ ap (tabulate (λ k. turnDay leap s zone (from + k))) long;
+      inside = omega (arith, long, f .listed-all);
+      enough = λ short. omega (arith, long, f .or-all (omega arith));
+    }
