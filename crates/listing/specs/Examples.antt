@@ -14,8 +14,8 @@ use Rattle.clock.specs.Answers.{leapJudged}
 use Rattle.whole.specs.Below.{every}
 use Rattle.words.specs.Words.{words}
 use Rattle.inputs.specs.Inputs.{inputsJudged}
-use Rattle.listing.specs.declared.layout.Places.{Places}
-use Rattle.listing.specs.Layout.{sectionEnd, places}
+use Rattle.layout.specs.declared.inner.Places.{Places}
+use Rattle.layout.specs.Layout.{sectionEnd, places}
 use Rattle.listing.specs.Listing.{listed, listedWords, listedBytes}
 
 abbrev isPlaces : ℕ → ℕ → Verdict Places → Bool

@@ -1,4 +1,3 @@
-pub mod Layout
 pub mod Parts
 pub mod Listing
 pub mod Lines

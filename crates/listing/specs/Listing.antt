@@ -18,7 +18,7 @@ use Rattle.series.specs.Bodies.{numbers}
 use Rattle.marks.specs.Marks.{Mark}
 use Rattle.marks.specs.Listed.{listedMarks}
 use Rattle.inputs.specs.Inputs.{Inputs, sun, moon, second, inputsJudged}
-use Rattle.listing.specs.Layout.{places, inputsAt}
+use Rattle.layout.specs.Layout.{places, inputsAt}
 
 abbrev pub letter : Body → ℕ
 letter Sun = 83

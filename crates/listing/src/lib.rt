@@ -4,7 +4,6 @@ ghost use lib.ListN.{length};
 ghost use Rattle.listing.specs.Listing.{listing};
 ghost use Rattle.listing.specs.Parts.{partAnswer, partHeld};
 
-mod layout;
 mod lines;
 mod parts;
 

@@ -1,7 +1,6 @@
 // A part of the listing of an input: its judgement, and the lines from one on that fit the room.
 use crate::Part;
-use crate::layout;
-use crate::layout::PlacesAnswer;
+use layout::inner::PlacesAnswer;
 use crate::lines;
 use crate::lines::Line;
 use refusals::Check;
@@ -18,7 +17,7 @@ ghost use lib.ListN.{length, getD};
 ghost use Rattle.series.specs.declared.Body.the-variants.{Sun, Moon};
 ghost use Rattle.series.specs.Series.{series};
 ghost use Rattle.marks.specs.Listed.{firstReached, listedMarks};
-ghost use Rattle.listing.specs.Layout.{inputsAt};
+ghost use Rattle.layout.specs.Layout.{inputsAt};
 ghost use Rattle.listing.specs.Lines.{lineText};
 ghost use Rattle.listing.specs.Parts.{partAnswer, partHeld};
 
@@ -176,7 +175,7 @@ pub fn put_words(words: &[i64], from: usize, room: &mut [u8]) -> Part
     ensures { λ r. ⌜ r ≡ partAnswer (printed (listedWords (now (words .entry)))) from (length (now (room .entry))) ⌝ }
     ensures { λ r. ⌜ now (room .exit) ≡ partHeld (printed (listedWords (now (words .entry)))) from (now (room .entry)) ⌝ }
 {
-    match layout::find_places(words) {
+    match layout::inner::find_places(words) {
         PlacesAnswer::Refused(r) => put_refusal(r.number, from, room),
         PlacesAnswer::Found(p) => put_sections(words, p.sun, p.moon, from, room),
     }

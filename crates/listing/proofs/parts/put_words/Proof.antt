@@ -1,8 +1,8 @@
 -- `listing::parts::put_words` meets its contract. Assumes nothing.
 use borrow.Author.Needs.{needs}
 use mathlib.Core.Path.{sym, ap, _∙_}
-use Rattle.listing.specs.Layout.{inputsAt, paperPlaces}
-use Rattle.listing.specs.theory.Sections.{places-inside}
+use Rattle.layout.specs.Layout.{inputsAt, paperPlaces}
+use Rattle.layout.specs.theory.Sections.{places-inside}
 use Rattle.listing.specs.Listing.{listed, listedWords, printed}
 use Rattle.refusals.specs.Verdict.{refused-then, answered-then}
 use Rattle.listing.proofs.parts.put_words.Statement.{statement}

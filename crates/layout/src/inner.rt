@@ -3,7 +3,7 @@ use refusals::Refusal;
 ghost use mathlib.Core.Path.{_≡_};
 ghost use Prim.Native.Nat.{_≤_};
 ghost use lib.ListN.{length};
-ghost use Rattle.listing.specs.Layout.{sectionEnd, places, paperEnd, paperPlaces};
+ghost use Rattle.layout.specs.Layout.{sectionEnd, places, paperEnd, paperPlaces};
 
 pub struct Places {
     pub sun: usize,
@@ -22,7 +22,7 @@ pub enum PlacesAnswer {
 
 // Where the section at `at` ends. The count is judged before it is multiplied.
 fn section_end(words: &[i64], at: usize, extra: usize, width: usize) -> EndAnswer
-    requires { ⌜ length (now words) ≤ 8192 ⌝ }
+    requires { ⌜ length (now words) ≤ 300000 ⌝ }
     requires { ⌜ extra ≤ 1 ⌝ }
     requires { ⌜ (1 ≤ width) × (width ≤ 14) ⌝ }
     ensures { λ r. ⌜ paperEnd r ≡ sectionEnd (now (words .entry)) at extra width ⌝ }
@@ -48,7 +48,7 @@ fn section_end(words: &[i64], at: usize, extra: usize, width: usize) -> EndAnswe
 
 // Where the sections stand, if they are all there and nothing follows.
 pub fn find_places(words: &[i64]) -> PlacesAnswer
-    requires { ⌜ length (now words) ≤ 8192 ⌝ }
+    requires { ⌜ length (now words) ≤ 300000 ⌝ }
     ensures { λ r. ⌜ paperPlaces r ≡ places (now (words .entry)) ⌝ }
 {
     match section_end(words, 0, 0, 2) {

@@ -1,4 +1,4 @@
--- `listing::layout::section_end` meets its contract. Assumes nothing.
+-- `layout::inner::section_end` meets its contract. Assumes nothing.
 use Prim.Native.Nat.{ℕ, _+_, _*_, _<_, _≤_}
 use borrow.Author.Needs.{needs}
 use borrow.Author.Tests.{le-leb, lt-leb, lt-ltb, le-ltb}
@@ -12,11 +12,11 @@ use mir.Syntax.{w64}
 use mir.Val.{SFits}
 use native.Mathlib.Nat.{mul-le-mul, le-refl}
 use native.Mathlib.Omega.{arith}
-use Rattle.listing.specs.Layout.{sectionEnd}
+use Rattle.layout.specs.Layout.{sectionEnd}
 use Rattle.refusals.specs.Verdict.{test-refuses, test-passes}
 use Rattle.whole.specs.Solver.{lt-no}
-use Rattle.listing.proofs.layout.section_end.Statement.{statement}
-use Rattle.listing.proofs.layout.section_end.Tie as tie
+use Rattle.layout.proofs.inner.section_end.Statement.{statement}
+use Rattle.layout.proofs.inner.section_end.Tie as tie
 
 -- a count that is larger than all the words needs more of them
 too-many : (n at e w k : ℕ) → n < k → 1 ≤ w → n < at + 1 + e + w * k

@@ -9,8 +9,8 @@ use lib.IntN.{ℤ, pos, natAbs}
 use lib.Signed.{ltZ}
 use lib.ListN.{length, getD}
 use Rattle.refusals.specs.Verdict.{answered, answers-apart, test-answered, then-answered}
-use Rattle.listing.specs.declared.layout.Places.{Places}
-use Rattle.listing.specs.Layout.{sectionEnd, places}
+use Rattle.layout.specs.declared.inner.Places.{Places}
+use Rattle.layout.specs.Layout.{sectionEnd, places}
 
 section-inside : (ws : List ℤ) (at extra width e : ℕ) → sectionEnd ws at extra width ≡ answered e → (at < length ws) × ((at + 1 + extra ≤ e) × (e ≤ length ws))
 unfolding sectionEnd

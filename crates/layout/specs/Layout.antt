@@ -8,11 +8,11 @@ use lib.Signed.{ltZ}
 use lib.ListN.{length, getD, take, drop}
 use Rattle.refusals.specs.Verdict.{Verdict, answered, refuseWhen, refusal, _before_, _then_}
 use Rattle.inputs.specs.Inputs.{Inputs}
-use Rattle.listing.specs.declared.layout.Places.{Places}
-use Rattle.listing.specs.declared.layout.EndAnswer.{EndAnswer}
-use Rattle.listing.specs.declared.layout.EndAnswer.the-variants as end-answer
-use Rattle.listing.specs.declared.layout.PlacesAnswer.{PlacesAnswer}
-use Rattle.listing.specs.declared.layout.PlacesAnswer.the-variants as places-answer
+use Rattle.layout.specs.declared.inner.Places.{Places}
+use Rattle.layout.specs.declared.inner.EndAnswer.{EndAnswer}
+use Rattle.layout.specs.declared.inner.EndAnswer.the-variants as end-answer
+use Rattle.layout.specs.declared.inner.PlacesAnswer.{PlacesAnswer}
+use Rattle.layout.specs.declared.inner.PlacesAnswer.the-variants as places-answer
 
 -- A section at `at` is a count, `extra` words, and `width` words for each one counted. Where it ends, if it is all there:
 unfoldable pub sectionEnd : List ℤ → ℕ → ℕ → ℕ → Verdict ℕ

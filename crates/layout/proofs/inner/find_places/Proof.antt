@@ -1,11 +1,11 @@
--- `listing::layout::find_places` meets its contract. Assumes nothing.
+-- `layout::inner::find_places` meets its contract. Assumes nothing.
 use borrow.Author.Needs.{needs}
 use borrow.Author.Tests.{lt-ltb, le-ltb}
 use mathlib.Core.Path.{sym, ap, _∙_}
-use Rattle.listing.specs.Layout.{places, paperEnd}
+use Rattle.layout.specs.Layout.{places, paperEnd}
 use Rattle.refusals.specs.Verdict.{refused-then, answered-then, test-refuses, test-passes}
-use Rattle.listing.proofs.layout.find_places.Statement.{statement}
-use Rattle.listing.proofs.layout.find_places.Tie as tie
+use Rattle.layout.proofs.inner.find_places.Statement.{statement}
+use Rattle.layout.proofs.inner.find_places.Tie as tie
 
 section-end-requires : tie.Need-section-end-requires
 section-end-requires c κs = search needs

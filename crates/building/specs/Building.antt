@@ -1,0 +1,27 @@
+-- The input of the build program: signed 64-bit little-endian words, first Y, count of suis, then leap table, Sun and Moon as in the listing's layout. Longer than
+-- the longest series allow, not in whole words, too short, with words left over or with a negative count of a section is 13, judged first; then the file build's
+-- own refusals. Assumes nothing: these are definitions.
+use mathlib.Core.Bool.{not}
+use mathlib.Core.List.{List}
+use Prim.Native.Nat.{ℕ, _/_, _%_}
+use lib.Dec.{ltb, eqb}
+use lib.IntN.{ℤ, pos}
+use lib.ListN.{length, getD, drop}
+use Rattle.refusals.specs.Verdict.{Verdict, refuseWhen, _before_, _then_}
+use Rattle.words.specs.Words.{words}
+use Rattle.clock.specs.Clock.{utc8}
+use Rattle.layout.specs.Layout.{places, inputsAt}
+use Rattle.build.specs.Build.{bytesBuilt}
+
+unfoldable pub builtFromRest : List ℤ → ℤ → ℤ → ℕ → Verdict (List ℕ)
+builtFromRest ws first count room = places ws then (λ p. bytesBuilt (inputsAt ws p) utc8 first count room)
+
+unfoldable pub builtFromWords : List ℤ → ℕ → Verdict (List ℕ)
+builtFromWords ws room = refuseWhen (ltb (length ws) 2) 13 before builtFromRest (drop 2 ws) (getD ws 0 (pos 0)) (getD ws 1 (pos 0)) room
+
+-- 252,135 words: first Y, count, 64 leap entries, 2,000 segments of the Sun and 16,000 of the Moon
+unfoldable pub builtFrom : List ℕ → ℕ → Verdict (List ℕ)
+builtFrom bytes room =
+    refuseWhen (ltb 2017080 (length bytes)) 13
+    before refuseWhen (not (eqb (length bytes % 8) 0)) 13
+    before builtFromWords (words bytes (length bytes / 8)) room

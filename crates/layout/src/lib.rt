@@ -1,0 +1,2 @@
+// The words that programs read: a leap table, the Sun and the Moon, one section behind the other.
+pub mod inner;
