@@ -17,7 +17,7 @@ BODIES = (('S', 1382400, 540000000, 2000, 24), ('M', 172800, 3240000000, 16000, 
 
 
 class Refused(Exception):
-    pass
+    """Its number, and for 3 to 5 the segment."""
 
 
 def value(c, x):
@@ -28,11 +28,14 @@ def value(c, x):
     return c[0] + total // S
 
 
-def sections(data):
-    """The leap words and the two series, or 13."""
-    if len(data) > 65536 or len(data) % 8:
+def words_of(data, most):
+    if len(data) > most or len(data) % 8:
         raise Refused(13)
-    words = struct.unpack('<%dq' % (len(data) // 8), data)
+    return struct.unpack('<%dq' % (len(data) // 8), data)
+
+
+def sections(words):
+    """The leap words and the two series, or 13."""
     at, found = 0, []
     for extra, width in ((0, 2), (1, 14), (1, 14)):
         if at >= len(words) or words[at] < 0 or at + 1 + extra + width * words[at] > len(words):
@@ -63,13 +66,15 @@ def judge(series, half, most):
     if not 1 <= count <= most or abs(start) > 10 ** 10:
         raise Refused(2)
     cs = [words[14 * k:14 * k + 14] for k in range(count)]
-    if any(abs(c[0]) > 10 ** 15 or any(abs(x) > 4 * 10 ** 9 for x in c[1:]) for c in cs):
-        raise Refused(3)
-    if any(c[1] - sum(n * n * abs(c[n]) for n in range(2, 14)) < 100 * half for c in cs):
-        raise Refused(4)
-    for a, b in zip(cs, cs[1:]):
-        if not 200 <= value(b, -S) - value(a, S - S // half) <= 100000:
-            raise Refused(5)
+    for k, c in enumerate(cs):
+        if abs(c[0]) > 10 ** 15 or any(abs(x) > 4 * 10 ** 9 for x in c[1:]):
+            raise Refused(3, k)
+    for k, c in enumerate(cs):
+        if c[1] - sum(n * n * abs(c[n]) for n in range(2, 14)) < 100 * half:
+            raise Refused(4, k)
+    for k in range(1, count):
+        if not 200 <= value(cs[k], -S) - value(cs[k - 1], S - S // half) <= 100000:
+            raise Refused(5, k)
     return cs
 
 
@@ -88,7 +93,7 @@ def marks(start, cs, half, mark):
 
 def listing(data):
     try:
-        leap, sun, moon = sections(data)
+        leap, sun, moon = sections(words_of(data, 65536))
         entries = judge_leap(leap)
         judged = [judge(series, b[1], b[3]) for series, b in zip((sun, moon), BODIES)]
         lines = []
@@ -102,7 +107,7 @@ def listing(data):
                 lines.append('%s %d %s.%03d\n' % (letter, j % circle, t.strftime('%Y-%m-%d %H:%M:%S'), t.microsecond // 1000))
         return ''.join(lines).encode()
     except Refused as r:
-        return b'R %d\n' % r.args
+        return b'R %d\n' % r.args[0]
 
 
 def random_series(rng, half, most):

@@ -100,4 +100,5 @@ def main():
         f.write(expected)
 
 
-main()
+if __name__ == '__main__':
+    main()

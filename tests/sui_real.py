@@ -138,4 +138,5 @@ def main():
         f.write(text)
 
 
-main()
+if __name__ == '__main__':
+    main()

@@ -13,7 +13,14 @@ ghost use Rattle.build.specs.Build.{bytesBuilt};
 ghost use Rattle.building.specs.Building.{builtFromRest, builtFromWords};
 
 // By the words of leap table, Sun and Moon, whose sections stand at these places.
-fn build_sections(words: &[i64], sun: usize, moon: usize, year: i64, count: i64, file: &mut [u8]) -> WriteAnswer
+fn build_sections(
+    words: &[i64],
+    sun: usize,
+    moon: usize,
+    year: i64,
+    count: i64,
+    file: &mut [u8],
+) -> WriteAnswer
     requires { ⌜ (1 ≤ sun) × ((sun + 2 ≤ moon) × (moon + 2 ≤ length (now words))) ⌝ }
     requires { ⌜ length (now words) ≤ 300000 ⌝ }
     ensures { λ r. ⌜ paperWritten r ≡ bytesCounted (bytesBuilt (inputsAt (now (words .entry)) (record { sun = sun; moon = moon })) utc8 year count (length (now (file .entry)))) ⌝ }

@@ -1,8 +1,8 @@
 // A part of the listing of an input: its judgement, and the lines from one on that fit the room.
 use crate::Part;
-use layout::inner::PlacesAnswer;
 use crate::lines;
 use crate::lines::Line;
+use layout::inner::PlacesAnswer;
 use refusals::Check;
 use series::Body;
 use times::Second;

@@ -1,0 +1,80 @@
+-- `build_run::print_built` is safe. Assumes nothing.
+use mathlib.Core.Path.{_≡_, sym, ap, _∙_}
+use mathlib.Core.List.{List}
+use Prim.Native.Nat.{ℕ, _≤_}
+use native.Mathlib.Omega.{arith}
+use lib.ListN.{length, drop, length-append}
+use lib.Seq.{length-take-le}
+use Rattle.refusals.specs.Verdict.{Verdict, answered, refused, answers-apart, answer-or-refusal}
+use Rattle.refusals.specs.Lent.{writtenInto}
+use Rattle.almanac.specs.Answers.{paperWritten, bytesCounted, all-bytes}
+use Rattle.building.specs.Building.{builtFrom}
+use borrow.Author.Needs.{needs}
+use Rattle.build_run.proofs.print_built.Statement.{statement}
+use Rattle.build_run.proofs.print_built.Tie as tie
+use Rattle.build_run.proofs.print_built.Reads as reads
+use Rattle.build_run.proofs.print_built.Lts as lts
+use Rattle.build_run.proofs.file_room.Reads as file-room-reads
+use Rattle.build_run.proofs.print_refusal.Reads as print-refusal-reads
+use Rattle.building.proofs.build_bytes.Reads as build-bytes-reads
+use Rattle.io.proofs.write_all.Reads as write-all-reads
+
+-- as many bytes as were written are in the file
+inside : (v : Verdict (List ℕ)) (file : List ℕ) {n : ℕ} {last : List ℕ} → answered n ≡ bytesCounted v → last ≡ writtenInto v all-bytes file → n ≤ length last
+inside (answered bytes) file p q = let n = answers-apart p in rw q (omega (arith, n, length-append bytes (drop (length bytes) file)))
+inside (refused number segment) file p q = answer-or-refusal p
+
+file-room-requires : tie.Need-file-room-requires
+file-room-requires c κs = search needs
+
+slice-aggregate-build-bytes : tie.Need-slice-aggregate-build-bytes
+slice-aggregate-build-bytes c = search needs
+
+build-bytes-requires : tie.Need-build-bytes-requires
+build-bytes-requires c κs = search needs
+
+enum-known-answer : tie.Need-enum-known-answer
+enum-known-answer c = search needs
+
+print-refusal-requires : tie.Need-print-refusal-requires
+print-refusal-requires c κs = search needs
+
+enum-known-answer-2 : tie.Need-enum-known-answer-2
+enum-known-answer-2 c = search needs
+
+array-share-prefix-file : tie.Need-array-share-prefix-file
+array-share-prefix-file c =
+    let told = c .before in
+    let built = told .before .before .before in
+    inside (builtFrom (built .before .before .before .before .args .input .now) _) _ (sym (ap paperWritten (told .answer2 .given .1)) ∙ built .build-bytes .ensures .0) (built .build-bytes .ensures .1)
+
+slice-aggregate-write-all : tie.Need-slice-aggregate-write-all
+slice-aggregate-write-all c =
+    let told = c .before .before in
+    let built = told .before .before .before in
+    sym (length-take-le _ _ (inside (builtFrom (built .before .before .before .before .args .input .now) _) _ (sym (ap paperWritten (told .answer2 .given .1)) ∙ built .build-bytes .ensures .0) (built .build-bytes .ensures .1)))
+
+write-all-requires : tie.Need-write-all-requires
+write-all-requires c κs = search needs
+
+returns : tie.Need-returns
+returns c = search needs
+
+returns-2 : tie.Need-returns-2
+returns-2 c = search needs
+
+pub print-built-spec : {M : Type 1} → statement M
+print-built-spec =
+    tie.close
+    (tie.spec
+    file-room-requires
+    slice-aggregate-build-bytes
+    build-bytes-requires
+    enum-known-answer
+    print-refusal-requires
+    enum-known-answer-2
+    array-share-prefix-file
+    slice-aggregate-write-all
+    write-all-requires
+    returns
+    returns-2)
