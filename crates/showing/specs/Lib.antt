@@ -1,0 +1,4 @@
+pub mod Shown
+pub mod Rows
+pub mod Answers
+pub mod theory
