@@ -4,5 +4,6 @@ pub mod Answers
 pub mod OneResult
 pub mod Theorems
 pub mod Columns
+pub mod Sizes
 pub mod Examples
 pub mod theory
