@@ -1,14 +1,14 @@
 -- The text put into lent room line by line: a turn of the loop, and the two promises. Assumes nothing.
 use mathlib.Core.Path.{_≡_, refl, sym, ap, _∙_}
-use mathlib.Core.List.{List, _++_, append-nil}
+use mathlib.Core.List.{List, _++_}
 use Prim.Native.Nat.{ℕ, _+_, _*_, _≤_, _<_}
 use native.Mathlib.Omega.{arith}
 use native.Mathlib.Numerals.{add-one}
 use native.Mathlib.Nat.{zero-add}
 use borrow.Author.Tests.{lt-ltb, le-ltb}
 use lib.IntN.{ℤ}
-use lib.ListN.{length, take, drop, take-append-drop}
-use Rattle.whole.specs.Lists.{placed, placed-both}
+use lib.ListN.{length, drop}
+use Rattle.whole.specs.Lists.{placed, placed-none, placed-both}
 use Rattle.refusals.specs.Verdict.{Verdict, answered, refused}
 use Rattle.refusals.specs.Lent.{writtenInto}
 use Rattle.almanac.specs.Content.{monthAt}
@@ -19,7 +19,7 @@ use Rattle.showing.specs.theory.Widths.{line-length, lines-length, text-
 module _ (months : List ℤ) (out : List ℕ) where
   pub no-lines : out ≡ placed 44 (lines months 0) out
   unfolding lines
-  no-lines = sym (ap (λ (t : List ℕ). t ++ drop 44 out) (append-nil (take 44 out)) ∙ take-append-drop 44 out)
+  no-lines = placed-none out 44
 
   pub lines-turn : (i : ℕ) {now last : List ℕ} (part : List ℕ) → 44 + 44 * (i + 1) ≤ length out → now ≡ placed 44 (lines months i) out → last ≡ placed (44 + 44 * i) part now → part ≡ line (monthAt months i) → last ≡ placed 44 (lines months (i + 1)) out
   lines-turn i part room e put is =

@@ -1,0 +1,4 @@
+pub mod Reading
+pub mod Packing
+pub mod Passes
+pub mod theory
