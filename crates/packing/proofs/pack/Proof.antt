@@ -17,14 +17,14 @@ enum-known-judged-2 : tie.Need-enum-known-judged-2
 enum-known-judged-2 c = search needs
 
 returns : tie.Need-returns
-returns c = 
+returns c =
     let told = c .before .before in
     let judge = told .before .before in
     let a = judge .before .before .before .args in
     no-room (a .text .now) (a .out .now) _ (words-counted (scan start (a .text .now)) _ (sym (told .judged2 .given .1) ∙ judge .judge .ensures)) (c .if1 .taken)
 
 fill-requires : tie.Need-fill-requires
-fill-requires c κs = 
+fill-requires c κs =
     let room = c .before in
     let told = room .before .before in
     let judge = told .before .before in
@@ -36,7 +36,7 @@ mul-t8 : tie.Need-mul-t8
 mul-t8 c = search needs
 
 returns-2 : tie.Need-returns-2
-returns-2 c = 
+returns-2 c =
     let told = c .before in
     let judge = told .before .before in
     let a = judge .before .before .before .args in
@@ -46,7 +46,7 @@ same-length : tie.Need-same-length
 same-length c = search needs
 
 returns-3 : tie.Need-returns-3
-returns-3 c = 
+returns-3 c =
     let fill = c .before .before in
     let room = fill .before .before in
     let told = room .before .before in

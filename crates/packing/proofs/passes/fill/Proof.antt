@@ -25,7 +25,7 @@ begin-requires : tie.Need-begin-requires Inv-loop μ-loop
 begin-requires c κs = search needs
 
 loop-holds : tie.Need-loop-holds Inv-loop μ-loop
-loop-holds c = 
+loop-holds c =
     let start = c .before .before .before in
     (read-none (start .args .text .now) (c .begin .ensures), (refl, fill-none (start .args .text .now) (start .args .out .now) (c .begin .ensures) (start .pre .0) (start .pre .1)))
 
@@ -36,7 +36,7 @@ ended-by-requires : tie.Need-ended-by-requires Inv-loop μ-loop
 ended-by-requires c κs = search needs
 
 put-ended-requires : tie.Need-put-ended-requires Inv-loop μ-loop
-put-ended-requires c κs = 
+put-ended-requires c κs =
     let ended = c .before in
     let turn = ended .before .before in
     let loop = turn .before in
@@ -46,7 +46,7 @@ put-ended-requires c κs =
     has-room (loop .loop .end) s (scan (step s (getD text i 0)) (drop (i + 1) text)) (loop .loop .out) _ (scan-next text s i (turn .loop-test .taken)) (ended .ended-by .ensures) (loop .loop .inv .1 .1)
 
 step-requires : tie.Need-step-requires Inv-loop μ-loop
-step-requires c κs = 
+step-requires c κs =
     let turn = c .before .before .before .before .before .before in
     let r = turn .before .loop .inv .0 in
     (omega (arith, turn .loop-test .taken, r .lines), omega (arith, turn .loop-test .taken, r .begun))
@@ -58,7 +58,7 @@ loop-less : tie.Need-loop-less Inv-loop μ-loop
 loop-less c = search needs
 
 loop-again : tie.Need-loop-again Inv-loop μ-loop
-loop-again c = 
+loop-again c =
     let put = c .before .before .before in
     let ended = put .before .before in
     let turn = ended .before .before in
@@ -78,7 +78,7 @@ end-of-requires : tie.Need-end-of-requires Inv-loop μ-loop
 end-of-requires c κs = search needs
 
 put-ended-requires-2 : tie.Need-put-ended-requires-2 Inv-loop μ-loop
-put-ended-requires-2 c κs = 
+put-ended-requires-2 c κs =
     let ended = c .before in
     let over = ended .before in
     let loop = over .before in
@@ -88,14 +88,14 @@ put-ended-requires-2 c κs =
     has-room (loop .loop .end) (loop .loop .state) (numbers []) (loop .loop .out) _ (scan-end text (loop .loop .state) i all) (ended .end-of .ensures) (loop .loop .inv .1 .1)
 
 same-length : tie.Need-same-length Inv-loop μ-loop
-same-length c = 
+same-length c =
     let put = c .before .before in
     let loop = put .before .before .before .before in
     let size : length (put .put-ended2 .last .0) ≡ length (loop .loop .out) = search needs in
     size ∙ loop .loop .inv .1 .0
 
 returns : tie.Need-returns Inv-loop μ-loop
-returns c = 
+returns c =
     let put = c .before .before in
     let ended = put .before .before in
     let over = ended .before in

@@ -24,7 +24,7 @@ begin-requires : tie.Need-begin-requires Inv-loop μ-loop
 begin-requires c κs = search needs
 
 loop-holds : tie.Need-loop-holds Inv-loop μ-loop
-loop-holds c = 
+loop-holds c =
     let text = c .before .before .args .text .now in
     (read-none text (c .begin .ensures), (omega arith, ap (λ (s : State). judged 0 (scan s text)) (c .begin .ensures)))
 
@@ -38,7 +38,7 @@ is-bad-requires : tie.Need-is-bad-requires Inv-loop μ-loop
 is-bad-requires c κs = search needs
 
 returns : tie.Need-returns Inv-loop μ-loop
-returns c = 
+returns c =
     let bad = c .before in
     let ended = bad .before in
     let turn = ended .before .before in
@@ -52,12 +52,12 @@ count-requires : tie.Need-count-requires Inv-loop μ-loop
 count-requires c κs = search needs
 
 add-words : tie.Need-add-words Inv-loop μ-loop
-add-words c = 
+add-words c =
     let loop = c .before .before .before .before .before .before in
     omega (arith, c .count .ensures .1, loop .loop .inv .1 .0, loop .loop .inv .0 .inside)
 
 step-requires : tie.Need-step-requires Inv-loop μ-loop
-step-requires c κs = 
+step-requires c κs =
     let turn = c .before .before .before .before .before in
     let r = turn .before .loop .inv .0 in
     (omega (arith, turn .loop-test .taken, r .lines), omega (arith, turn .loop-test .taken, r .begun))
@@ -69,7 +69,7 @@ loop-less : tie.Need-loop-less Inv-loop μ-loop
 loop-less c = search needs
 
 loop-again : tie.Need-loop-again Inv-loop μ-loop
-loop-again c = 
+loop-again c =
     let count = c .before in
     let good = count .before in
     let bad = good .before in
@@ -83,7 +83,7 @@ loop-again c =
       (
         omega (arith, count .count .ensures .1, loop .loop .inv .1 .0),
         ap (λ (x : State). judged (loop .loop .words + count .count .result) (scan x (drop (i + 1) text))) (c .step .ensures)
-        ∙ count-turn s (scan (step s (getD text i 0)) (drop (i + 1) text)) (loop .loop .words) (count .count .result) (scan-next text s i (turn .loop-test .taken)) (loop .loop .inv .1 .1) (ended .ended-by .ensures) (sym (bad .is-bad .ensures) ∙ good .if1 .left) (count .count .ensures .0),
+            ∙ count-turn s (scan (step s (getD text i 0)) (drop (i + 1) text)) (loop .loop .words) (count .count .result) (scan-next text s i (turn .loop-test .taken)) (loop .loop .inv .1 .1) (ended .ended-by .ensures) (sym (bad .is-bad .ensures) ∙ good .if1 .left) (count .count .ensures .0),
       ),
     )
 
@@ -94,7 +94,7 @@ is-bad-requires-2 : tie.Need-is-bad-requires-2 Inv-loop μ-loop
 is-bad-requires-2 c κs = search needs
 
 returns-2 : tie.Need-returns-2 Inv-loop μ-loop
-returns-2 c = 
+returns-2 c =
     let bad = c .before in
     let ended = bad .before in
     let over = ended .before in
@@ -109,12 +109,12 @@ count-requires-2 : tie.Need-count-requires-2 Inv-loop μ-loop
 count-requires-2 c κs = search needs
 
 add-t17 : tie.Need-add-t17 Inv-loop μ-loop
-add-t17 c = 
+add-t17 c =
     let loop = c .before .before .before .before .before in
     omega (arith, c .count2 .ensures .1, loop .loop .inv .1 .0, loop .loop .inv .0 .inside)
 
 returns-3 : tie.Need-returns-3 Inv-loop μ-loop
-returns-3 c = 
+returns-3 c =
     let good = c .before in
     let bad = good .before in
     let ended = bad .before in

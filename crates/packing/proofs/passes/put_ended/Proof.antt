@@ -17,7 +17,7 @@ enum-known-ended : tie.Need-enum-known-ended
 enum-known-ended c = search needs
 
 put8-requires : tie.Need-put8-requires
-put8-requires c κs = 
+put8-requires c κs =
     let told = c .before .before in
     let start = told .before .before .before in
     rw (told .ended .given .1) at (start .pre)
@@ -26,12 +26,12 @@ add-result : tie.Need-add-result
 add-result c = search needs
 
 returns : tie.Need-returns
-returns c = 
+returns c =
     let a = c .before .before .before .args in
     rw (c .enum-told .given .1) (omega arith, placed-none (a .out .now) (a .end))
 
 returns-2 : tie.Need-returns-2
-returns-2 c = 
+returns-2 c =
     let a = c .before .before .before .args in
     rw (c .enum-told2 .given .1) (omega arith, placed-none (a .out .now) (a .end))
 
@@ -39,7 +39,7 @@ same-length : tie.Need-same-length
 same-length c = search needs
 
 returns-3 : tie.Need-returns-3
-returns-3 c = 
+returns-3 c =
     let put = c .before .before in
     let known = put .before .before in
     let told = known .before in

@@ -14,14 +14,14 @@ wide-requires c κs = search needs
 
 returns : tie.Need-returns
 unfolding afterDigit
-returns c = 
+returns c =
     let byte = c .before .before .args .byte in
     let low : byte < 48 = omega (arith, c .if1 .taken, c .before .wide .ensures .0) in
     rw (lt-leb 48 byte low)
 
 returns-2 : tie.Need-returns-2
 unfolding afterDigit
-returns-2 c = 
+returns-2 c =
     let unit = c .before .before in
     let byte = unit .before .args .byte in
     let low : 48 ≤ byte = omega (arith, c .before .if1 .left, unit .wide .ensures .0) in
@@ -30,7 +30,7 @@ returns-2 c =
 
 returns-3 : tie.Need-returns-3
 unfolding afterDigit
-returns-3 c = 
+returns-3 c =
     let unit = c .before .before .before in
     let a = unit .before .args in
     let low : 48 ≤ a .byte = omega (arith, c .before .before .if1 .left, unit .wide .ensures .0) in
@@ -45,7 +45,7 @@ add-t8 c = search needs
 
 returns-4 : tie.Need-returns-4
 unfolding afterDigit
-returns-4 c = 
+returns-4 c =
     let unit = c .before .before .before in
     let a = unit .before .args in
     let low : 48 ≤ a .byte = omega (arith, c .before .before .if1 .left, unit .wide .ensures .0) in

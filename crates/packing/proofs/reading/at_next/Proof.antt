@@ -16,7 +16,7 @@ returns c = rw (sym (c .before .is-comment .ensures) ∙ c .if1 .taken)
 
 returns-2 : tie.Need-returns-2
 unfolding atNext
-returns-2 c = 
+returns-2 c =
     let comment = c .before .before in
     rw (sym (comment .is-comment .ensures) ∙ c .before .if1 .left, eq-eqb (comment .before .args .byte) 35 (c .if2 .taken))
 
@@ -25,7 +25,7 @@ white-requires c κs = search needs
 
 returns-3 : tie.Need-returns-3
 unfolding atNext
-returns-3 c = 
+returns-3 c =
     let hash = c .before .before in
     let comment = hash .before .before in
     rw (sym (comment .is-comment .ensures) ∙ hash .before .if1 .left, ne-eqb (comment .before .args .byte) 35 (hash .if2 .left), sym (c .before .white .ensures) ∙ c .if3 .taken)
@@ -35,7 +35,7 @@ in-word-requires c κs = search needs
 
 returns-4 : tie.Need-returns-4
 unfolding atNext
-returns-4 c = 
+returns-4 c =
     let white = c .before .before in
     let hash = white .before in
     let comment = hash .before .before in

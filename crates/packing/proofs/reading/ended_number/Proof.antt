@@ -15,7 +15,7 @@ limit-of-requires c κs = search needs
 
 returns : tie.Need-returns
 unfolding endOf
-returns c = 
+returns c =
     let limited = c .before in
     let a = limited .before .args in
     let above : limit (a .below) < a .n = omega (arith, c .if1 .taken, limited .limit-of .ensures) in
@@ -26,7 +26,7 @@ signed-requires c κs = search needs
 
 returns-2 : tie.Need-returns-2
 unfolding endOf
-returns-2 c = 
+returns-2 c =
     let limited = c .before .before in
     let a = limited .before .args in
     let within : a .n ≤ limit (a .below) = omega (arith, c .before .if1 .left, limited .limit-of .ensures) in

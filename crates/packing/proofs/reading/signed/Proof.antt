@@ -22,17 +22,17 @@ sub-below-zero : tie.Need-sub-below-zero
 sub-below-zero c = search needs
 
 below-zero-requires : tie.Need-below-zero-requires
-below-zero-requires c κs = 
+below-zero-requires c κs =
     let start = c .before .before in
     omega (arith, c .if2 .left, rw (c .before .if1 .taken) at (start .pre))
 
 returns-2 : tie.Need-returns-2
-returns-2 c = 
+returns-2 c =
     let start = c .before .before .before in
     rw (c .before .before .if1 .taken) (back (c .below-zero .result) (c .below-zero .ok) ∙ c .below-zero .ensures ∙ below (start .args .n) (c .before .if2 .left))
 
 cast-result : tie.Need-cast-result
-cast-result c = 
+cast-result c =
     let within : c .before .args .n ≤ 9223372036854775807 = rw (c .if1 .left) at (c .before .pre) in
     search needs
 

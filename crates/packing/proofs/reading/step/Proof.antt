@@ -26,14 +26,14 @@ add-t9 c = search needs
 
 returns-2 : tie.Need-returns-2
 unfolding step
-returns-2 c = 
+returns-2 c =
     let begun = c .before in
     let at = begun .before .before in
     rw (ne-eqb (at .before .before .args .byte) 10 (at .before .if1 .left), sym (begun .before .begins .ensures) ∙ begun .if2 .taken, at .at-next .ensures)
 
 returns-3 : tie.Need-returns-3
 unfolding step
-returns-3 c = 
+returns-3 c =
     let at = c .before .before in
     let s = at .before .before .args .state in
     let none : s .word + 0 ≡ s .word = omega arith in
