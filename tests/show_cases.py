@@ -4,10 +4,13 @@
 show_cases.py          works out crates/show_cases/stdout from the files under data/: a file is judged by document 01's sentences ("Almanac file"), and shown as
                        docs/RULES.md says. It shares no code with the proved library.
 show_cases.py FILE     first writes those files anew: suis cut from FILE, a real almanac, and the same damaged in several ways
+show_cases.py --random N   compares the program with it on N random files, lawful and damaged (a fixed seed); it is proved and built first
 """
 import datetime
 import os
+import random
 import struct
+import subprocess
 import sys
 
 here = os.path.dirname(os.path.dirname(os.path.realpath(__file__)))
@@ -169,7 +172,58 @@ def write_files(path):
         f.writelines(name + '\n' for name in files)
 
 
+def random_file(rng):
+    """A lawful file, in half of the cases with one byte changed, or cut or lengthened."""
+    day, offset, leap = rng.randint(-120000, 50000), rng.randint(0, 1000), []
+    for _ in range(rng.choice((1, 2, 28, 64))):
+        leap.append((day, offset))
+        day, offset = day + rng.randint(1, 700), offset + 1
+    count = rng.choice((1, 2, 3, 20, 128))
+    year, first = rng.randint(1700, 2501 - count), rng.randint(-150000, 200000 - 390 * count)
+    suis, months = [], []
+    for y in range(year, year + count):
+        place = rng.choice((0, rng.randint(1, 12)))
+        suis.append((y, 13 if place else 12))
+        for k in range(suis[-1][1]):
+            at = k - 1 if place and k >= place else k
+            months.append((32 * y + 2 * NUMBERS[at] + (1 if place and k == place else 0), first, rng.choice((29, 30))))
+            first += months[-1][2]
+    data = made(leap, suis, months)
+    assert shown(data) != 'R 13\n'
+    damage = rng.randrange(6)
+    if damage == 0:
+        at = rng.randrange(len(data))
+        data = data[:at] + bytes([data[at] ^ 1 << rng.randrange(8)]) + data[at + 1:]
+    elif damage == 1:
+        data = data[:rng.randrange(len(data))]
+    elif damage == 2:
+        data += bytes(rng.choice((1, 9)))
+    return data
+
+
+def compare(count):
+    sys.dont_write_bytecode = True
+    sys.path.insert(0, os.path.join(here, 'bench'))
+    import reference
+    program = reference.built_program('show')
+    rng, seen = random.Random(2000), {}
+    for k in range(count):
+        data = random_file(rng)
+        got = subprocess.run(program, input=data, stdout=subprocess.PIPE, check=True).stdout.decode('ascii')
+        if got != shown(data):
+            kept = os.path.join(here, 'target', 'differs.alm')
+            with open(kept, 'wb') as f:
+                f.write(data)
+            sys.exit('file %d differs; it is kept in %s' % (k, kept))
+        kind = 'refused' if got == 'R 13\n' else 'shown'
+        seen[kind] = seen.get(kind, 0) + 1
+    print('%d files, no difference: %s' % (count, ', '.join('%s %d' % s for s in sorted(seen.items()))))
+
+
 def main():
+    if sys.argv[1:2] == ['--random'] and len(sys.argv) == 3:
+        compare(int(sys.argv[2]))
+        return
     if len(sys.argv) > 1:
         write_files(sys.argv[1])
     with open(os.path.join(crate, 'args'), encoding='ascii') as f:

@@ -6,7 +6,7 @@ use Prim.Native.Nat.{ℕ, _+_, _-_, _*_}
 use lib.Dec.{eqb, leb}
 use Rattle.packing.specs.declared.reading.Ended.{Ended}
 use Rattle.packing.specs.declared.reading.Ended.the-variants.{Word, Bad}
-use Rattle.packing.specs.Reading.{isWordByte, isDigit, signedOf, limit}
+use Rattle.packing.specs.Reading.{isDigit, signedOf, limit}
 
 -- each byte passes a test
 abbrev pub eachByte : (ℕ → Bool) → List ℕ → Bool

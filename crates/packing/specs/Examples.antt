@@ -1,7 +1,7 @@
 -- Worked texts on both sides of every bound, each a computed fact, and all of them checked at once. A text is written out as bytes, with the text itself beside it (\n
 -- is the line feed, \r the carriage return, \t the tab, \v the vertical tab, \f the form feed). Assumes nothing.
 use mathlib.Core.Bool.{Bool, true, false, _&&_}
-use mathlib.Core.List.{List, [], _∷_, _++_}
+use mathlib.Core.List.{List, [], _∷_}
 use Prim.Native.Nat.{ℕ}
 use lib.Dec.{T, eqb}
 use lib.IntN.{ℤ, pos, negsuc}

@@ -3,7 +3,7 @@
 -- `endedBy` what a byte ends. Assumes nothing: these are definitions.
 use mathlib.Core.Bool.{Bool, true, false, cond, not, _&&_, _||_}
 use Prim.Native.Nat.{ℕ, zero, suc, _+_, _-_, _*_}
-use lib.Dec.{eqb, leb, ltb}
+use lib.Dec.{eqb, leb}
 use lib.IntN.{ℤ, pos, negsuc}
 use Rattle.packing.specs.declared.reading.At.{At}
 use Rattle.packing.specs.declared.reading.At.the-variants.{Between, Comment, Sign, Number, Broken}

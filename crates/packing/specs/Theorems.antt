@@ -5,9 +5,9 @@ use mathlib.Core.Bool.{Bool, true, false, cond, not, _&&_, _||_}
 use mathlib.Core.List.{List, [], _∷_, _++_, append-nil}
 use Prim.Native.Nat.{ℕ, _+_, _-_, _*_, _≤_, _<_}
 use native.Mathlib.Omega.{arith}
-use borrow.Author.Tests.{le-leb, lt-leb, leb-false, ne-eqb, eqb-true, not-true}
+use borrow.Author.Tests.{lt-leb, leb-false, eqb-true, not-true}
 use lib.Dec.{eqb, leb}
-use Rattle.whole.specs.Booleans.{both, both-hold, second-fails, first-fails, not-both, neither}
+use Rattle.whole.specs.Booleans.{both, second-fails, not-both, neither}
 use Rattle.packing.specs.declared.reading.At.{At}
 use Rattle.packing.specs.declared.reading.At.the-variants.{Between, Comment, Sign, Number, Broken}
 use Rattle.packing.specs.declared.reading.State.{State}
@@ -15,7 +15,7 @@ use Rattle.packing.specs.declared.reading.Ended.{Ended}
 use Rattle.packing.specs.declared.reading.Ended.the-variants.{Nothing, Word, Bad}
 use Rattle.packing.specs.Reading.{isWhite, isWordByte, isDigit, isBetween, isComment, afterDigit, beginning, inWord, atNext, beganAt, step, limit, signedOf, endOf, endedBy}
 use Rattle.packing.specs.Packing.{Scanned, numbers, joined, scan}
-use Rattle.packing.specs.Decimal.{eachByte, decimal, some, digitsSay, wordSays}
+use Rattle.packing.specs.Decimal.{eachByte, decimal, digitsSay, wordSays}
 
 -- where the bytes of a word leave the reader
 abbrev pub behind : At → List ℕ → At

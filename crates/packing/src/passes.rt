@@ -7,7 +7,7 @@ use crate::reading::ended_by;
 use crate::reading::step;
 ghost use mathlib.Core.Path.{_≡_};
 ghost use mathlib.Core.Bool.{true};
-ghost use Prim.Native.Nat.{_+_, _*_, _≤_};
+ghost use Prim.Native.Nat.{_+_, _≤_};
 ghost use lib.ListN.{length};
 ghost use Rattle.whole.specs.Lists.{placed};
 ghost use Rattle.packing.specs.Packing.{scan, start, bytesOf};

@@ -2,8 +2,7 @@
 use words::inner::below_zero;
 ghost use mathlib.Core.Path.{_≡_};
 ghost use Prim.Native.Nat.{_^_, _≤_, _<_};
-ghost use lib.Dec.{leb};
-ghost use Rattle.packing.specs.Reading.{isComment, isBetween, isWhite, isWordByte, isDigit, afterDigit, beginning, inWord, atNext, beganAt, step, signedOf, limit, endOf, endedBy};
+ghost use Rattle.packing.specs.Reading.{isComment, isBetween, isWhite, isWordByte, afterDigit, beginning, inWord, atNext, beganAt, step, signedOf, limit, endOf, endedBy};
 
 // Where the reader stands: between words, in a comment, behind the sign of a word, behind a digit of one (below zero or not, and how far from it), or in what is no word.
 pub enum At {

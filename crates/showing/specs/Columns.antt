@@ -1,6 +1,6 @@
 -- No column is too narrow for its number: of each month of a lawful content every number that its line shows is not negative and has no more digits than its column
 -- (`columns-wide-enough`). Assumes nothing.
-use mathlib.Core.Path.{_≡_, refl, sym, ap, _∙_}
+use mathlib.Core.Path.{_≡_, refl, sym, _∙_}
 use mathlib.Core.Bool.{Bool, true, false, cond}
 use mathlib.Core.List.{List, [], _∷_}
 use mathlib.Core.Logic.{⊎-elim}
@@ -8,7 +8,7 @@ use Prim.Native.Nat.{ℕ, zero, suc, _+_, _-_, _*_, _≤_, _<_}
 use native.Mathlib.Omega.{arith}
 use lib.Dec.{leb}
 use borrow.Author.Tests.{leb-true}
-use lib.IntN.{ℤ, pos, negsuc, natAbs, _+ℤ_, _*ℤ_}
+use lib.IntN.{ℤ, pos, natAbs}
 use lib.ListN.{getD}
 use Rattle.whole.specs.Parts.{_⩽_, _≺_, ℤ-rules}
 use Rattle.whole.specs.Solver.{⇑, ⇓, ring}
@@ -22,7 +22,7 @@ use Rattle.dates.specs.theory.Judged.{day-found, refused-outside-1500-to-2600}
 use Rattle.months.specs.declared.Month.{Month}
 use Rattle.months.specs.Handles.{numberAt, leapMark, handle, handleAt}
 use Rattle.months.specs.theory.Numbering.{number-small, mark-small}
-use Rattle.almanac.specs.Content.{Content, monthCount, yearAt, monthAt, lawful}
+use Rattle.almanac.specs.Content.{Content, monthCount, monthAt, lawful}
 use Rattle.almanac.specs.theory.FieldLaws.{Counted}
 use Rattle.almanac.specs.theory.Rules.{Rules, rules, counted-in, year-range, length-range, handle-is, Placed, placed}
 use Rattle.showing.specs.theory.Dated.{dated}

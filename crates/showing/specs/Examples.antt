@@ -1,6 +1,6 @@
 -- Worked lines and a worked file, byte by byte, each a computed fact, and all of them checked at once: an ordinary month, a leap month, the 133 bytes of the almanac's
 -- example shown whole, and 13 before 12. What is shown is written out as bytes, not taken from the definitions. Assumes nothing.
-use mathlib.Core.Bool.{Bool, false, _&&_}
+use mathlib.Core.Bool.{Bool, false}
 use mathlib.Core.List.{List, [], _∷_, _++_}
 use Prim.Native.Nat.{ℕ}
 use lib.Dec.{T, eqb}

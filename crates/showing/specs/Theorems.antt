@@ -1,8 +1,8 @@
 -- What is shown is what the almanac says: a line's year, number and leap mark are those its handle was made of (`handle-shown`), and the year is that of the month's
 -- sui (`sui-shown`). `Columns` says that no number is cut. Assumes nothing.
-use mathlib.Core.Path.{_≡_, refl, sym, ap, _∙_}
-use mathlib.Core.Bool.{Bool, true, false}
-use mathlib.Core.List.{List, [], _∷_}
+use mathlib.Core.Path.{_≡_, refl, ap, _∙_}
+use mathlib.Core.Bool.{true}
+use mathlib.Core.List.{[], _∷_}
 use mathlib.Core.Logic.{_⊎_, ⊎-elim}
 use Prim.Native.Nat.{ℕ, _+_, _*_, _/_, _%_, _≤_, _<_}
 use native.Mathlib.Omega.{arith}
@@ -14,7 +14,7 @@ use Rattle.whole.specs.Solver.{⇑, ⇓, ring}
 use Rattle.months.specs.declared.Month.{Month}
 use Rattle.months.specs.Handles.{numberAt, leapMark, handle, handleAt}
 use Rattle.months.specs.theory.Numbering.{number-small, mark-small}
-use Rattle.almanac.specs.Content.{Content, suiCount, monthCount, yearAt, countAt, monthAt, monthsBefore, lawful}
+use Rattle.almanac.specs.Content.{Content, suiCount, yearAt, countAt, monthAt, monthsBefore, lawful}
 use Rattle.almanac.specs.theory.Rules.{Rules, rules, year-range, handle-is}
 use Rattle.showing.specs.Shown.{suiOf, numberOf, isLeap}
 

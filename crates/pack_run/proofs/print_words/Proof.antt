@@ -9,7 +9,7 @@ use mathlib.Core.List.{List, _++_}
 use mathlib.Core.Path.{_≡_, sym, _∙_}
 use native.Mathlib.Omega.{arith}
 use Rattle.packing.specs.Packing.{Scanned, numbers, bad, scan, start, bytesOf, answerFor, heldAfter, packed, held}
-use Rattle.packing.specs.declared.PackAnswer.the-variants.{Packed, Bad, Room}
+use Rattle.packing.specs.declared.PackAnswer.the-variants.{Packed, Room}
 use Rattle.packing.specs.theory.Filling.{bytes-length}
 use Rattle.pack_run.proofs.print_words.Statement.{statement}
 use Rattle.pack_run.proofs.print_words.Tie as tie

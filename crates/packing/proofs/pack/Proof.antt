@@ -1,9 +1,9 @@
 -- `packing::pack` meets its contract. Assumes nothing.
 use borrow.Author.Needs.{needs}
-use mathlib.Core.Path.{_≡_, sym, _∙_}
+use mathlib.Core.Path.{sym, _∙_}
 use native.Mathlib.Omega.{arith}
 use Rattle.packing.specs.Packing.{scan, start}
-use Rattle.packing.specs.theory.Packed.{Counted, words-counted, not-packed, no-room, size, fits, all-packed}
+use Rattle.packing.specs.theory.Packed.{words-counted, not-packed, no-room, size, fits, all-packed}
 use Rattle.packing.proofs.pack.Statement.{statement}
 use Rattle.packing.proofs.pack.Tie as tie
 

@@ -1,17 +1,15 @@
 -- The promises of `pack`, by what the first pass answered. Assumes nothing.
 use mathlib.Core.Path.{_≡_, refl, sym, ap, _∙_}
-use mathlib.Core.Bool.{Bool, true, false}
-use mathlib.Core.List.{List, [], _∷_, _++_}
-use Prim.Native.Nat.{ℕ, _+_, _*_, _/_, _%_, _≤_, _<_}
+use mathlib.Core.Bool.{true}
+use mathlib.Core.List.{List, _++_}
+use Prim.Native.Nat.{ℕ, _+_, _*_, _/_, _≤_, _<_}
 use native.Mathlib.Omega.{arith}
 use native.Mathlib.Nat.{zero-add, div-add-mod', mod-lt}
 use borrow.Author.Tests.{lt-ltb, le-ltb}
-use lib.IntN.{ℤ}
 use lib.ListN.{length, drop}
 use Rattle.whole.specs.Lists.{placed}
 use Rattle.packing.specs.declared.PackAnswer.{PackAnswer}
 use Rattle.packing.specs.declared.PackAnswer.the-variants as answer
-use Rattle.packing.specs.declared.passes.Judged.{Judged}
 use Rattle.packing.specs.declared.passes.Judged.the-variants as judge
 use Rattle.packing.specs.Packing.{Scanned, numbers, bad, scan, start, bytesOf, answerFor, heldAfter, packed, held}
 use Rattle.packing.specs.Passes.{judged, isGood, found}

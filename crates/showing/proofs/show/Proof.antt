@@ -1,11 +1,9 @@
 -- `showing::show` meets its contract. Assumes nothing.
-use Prim.Native.Nat.{ℕ, _*_, _≤_}
 use borrow.Author.Needs.{needs}
 use lib.ListN.{length}
 use mathlib.Core.Path.{sym, ap, _∙_}
 use native.Mathlib.Omega.{arith}
 use Rattle.almanac.specs.Answers.{paperFile}
-use Rattle.almanac.specs.declared.Counts.{Counts}
 use Rattle.showing.specs.Shown.{textOf}
 use Rattle.showing.specs.theory.Reading.{Shows, shows, refused-read, not-shown, is-shown}
 use Rattle.showing.proofs.show.Statement.{statement}

@@ -1,11 +1,10 @@
 -- The first day of each month of a lawful content has a date. Assumes nothing.
-use mathlib.Core.Path.{_≡_, _∙_}
+use mathlib.Core.Path.{_≡_}
 use mathlib.Core.Bool.{true}
 use mathlib.Core.List.{List, [], _∷_}
-use Prim.Native.Nat.{ℕ, zero, suc, _+_, _*_, _<_}
+use Prim.Native.Nat.{ℕ, zero, suc, _+_, _<_}
 use native.Mathlib.Omega.{arith}
 use lib.IntN.{ℤ, pos, negsuc, _+ℤ_, _-ℤ_}
-use Rattle.whole.specs.Parts.{_⩽_}
 use Rattle.whole.specs.Solver.{⇑, ⇓, ring}
 use Rattle.whole.specs.Tests.{inRange, in-range-says, says-in-range, exactly-says}
 use Rattle.dates.specs.Answers.{hasDate}

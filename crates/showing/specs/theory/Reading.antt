@@ -1,8 +1,8 @@
 -- A lawful file always fits the words that are lent for it, so what is read is its content. Assumes nothing.
 use mathlib.Core.Path.{_≡_, refl, sym, ap, _∙_}
-use mathlib.Core.Bool.{Bool, true, false}
-use mathlib.Core.List.{List, _++_}
-use Prim.Native.Nat.{ℕ, _+_, _*_, _/_, _≤_, _<_}
+use mathlib.Core.Bool.{false}
+use mathlib.Core.List.{List}
+use Prim.Native.Nat.{ℕ, _*_, _≤_}
 use native.Mathlib.Omega.{arith}
 use borrow.Author.Tests.{le-ltb}
 use lib.IntN.{ℤ}
@@ -12,13 +12,13 @@ use Rattle.refusals.specs.Verdict.{Verdict, answered, refused, refuseWhen, answ
 use Rattle.refusals.specs.Lent.{writtenInto}
 use Rattle.clock.specs.theory.Table.{few}
 use Rattle.almanac.specs.declared.Counts.{Counts}
-use Rattle.almanac.specs.Content.{Content, entryCount, suiCount, monthCount, month-words}
+use Rattle.almanac.specs.Content.{Content, monthCount, month-words}
 use Rattle.almanac.specs.Layout.{fileOf}
 use Rattle.almanac.specs.Answers.{countsIn, tooShort, contentRead, readFile}
 use Rattle.almanac.specs.Theorems.{read-is-lawful}
 use Rattle.almanac.specs.theory.Rules.{Rules, rules, entries-whole, words-of-suis, few-suis, months-counted, months-few}
 use Rattle.showing.specs.Shown.{textOf}
-use Rattle.showing.specs.Answers.{textInto, textShown, all-bytes, counted, shown}
+use Rattle.showing.specs.Answers.{textInto, textShown, all-bytes, shown}
 use Rattle.showing.specs.theory.Dated.{Dated, dated}
 use Rattle.showing.specs.theory.Putting.{Promises}
 

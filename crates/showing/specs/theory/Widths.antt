@@ -1,14 +1,14 @@
 -- Every line has 44 bytes. Assumes nothing.
-use mathlib.Core.Path.{_≡_, refl, ap, ap₂, _∙_}
+use mathlib.Core.Path.{_≡_, refl, _∙_}
 use mathlib.Core.Bool.{Bool, true, false, cond}
-use mathlib.Core.List.{List, [], _∷_, _++_}
+use mathlib.Core.List.{List, [], _∷_}
 use Prim.Native.Nat.{ℕ, zero, suc, _+_, _*_}
 use native.Mathlib.Omega.{arith}
 use lib.IntN.{ℤ}
 use lib.ListN.{length, length-append}
 use Rattle.months.specs.declared.Month.{Month}
 use Rattle.almanac.specs.Content.{monthAt}
-use Rattle.showing.specs.Shown.{columns, leapWord, isLeap, header, line, lines, text}
+use Rattle.showing.specs.Shown.{leapWord, isLeap, header, line, lines, text}
 
 -- the word, letter by letter
 pub letters : (leap : Bool) → leapWord leap ≡ cond leap 108 32 ∷ cond leap 101 32 ∷ cond leap 97 32 ∷ cond leap 112 32 ∷ []

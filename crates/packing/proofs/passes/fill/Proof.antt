@@ -1,14 +1,13 @@
 -- `packing::passes::fill` meets its contract. Assumes nothing.
-use Prim.Native.Nat.{ℕ, _+_, _-_, _≤_}
+use Prim.Native.Nat.{_+_, _-_}
 use borrow.Author.Needs.{needs}
 use lib.ListN.{length, drop, getD}
-use mathlib.Core.List.{List, []}
-use mathlib.Core.Path.{_≡_, refl, sym, ap, _∙_}
+use mathlib.Core.List.{[]}
+use mathlib.Core.Path.{_≡_, refl, _∙_}
 use native.Mathlib.Omega.{arith}
 use Rattle.packing.specs.Packing.{numbers, scan, start, bytesOf}
 use Rattle.packing.specs.Passes.{found}
 use Rattle.packing.specs.Reading.{step}
-use Rattle.packing.specs.declared.reading.State.{State}
 use Rattle.packing.specs.theory.Filling.{Filled, fill-none, has-room, fill-turn, fill-end}
 use Rattle.packing.specs.theory.Judging.{Read, read-none, read-next, scan-next, scan-end}
 use Rattle.whole.specs.Lists.{placed}

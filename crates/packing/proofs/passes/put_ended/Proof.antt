@@ -1,6 +1,6 @@
 -- `packing::passes::put_ended` meets its contract. Assumes nothing.
 use borrow.Author.Needs.{needs}
-use mathlib.Core.Path.{_≡_, refl, sym, ap, _∙_}
+use mathlib.Core.Path.{refl}
 use native.Mathlib.Omega.{arith}
 use Rattle.whole.specs.Lists.{placed-none}
 use Rattle.whole.specs.Ranges.{back}

@@ -1,9 +1,8 @@
 -- `packing::reading::at_next` meets its contract. Assumes nothing.
 use borrow.Author.Needs.{needs}
-use borrow.Author.Tests.{lt-ltb, le-ltb, le-leb, lt-leb, eq-eqb, ne-eqb}
-use mathlib.Core.Bool.{true, false}
-use mathlib.Core.Path.{_≡_, refl, sym, ap, _∙_}
-use Rattle.packing.specs.Reading.{isComment, isWhite, atNext}
+use borrow.Author.Tests.{eq-eqb, ne-eqb}
+use mathlib.Core.Path.{sym, _∙_}
+use Rattle.packing.specs.Reading.{atNext}
 use Rattle.packing.proofs.reading.at_next.Statement.{statement}
 use Rattle.packing.proofs.reading.at_next.Tie as tie
 

@@ -1,6 +1,6 @@
 -- `packing::reading::beginning` meets its contract. Assumes nothing.
 use borrow.Author.Needs.{needs}
-use borrow.Author.Tests.{lt-ltb, le-ltb, le-leb, lt-leb, eq-eqb, ne-eqb}
+use borrow.Author.Tests.{eq-eqb, ne-eqb}
 use Rattle.packing.specs.Reading.{beginning}
 use Rattle.packing.proofs.reading.beginning.Statement.{statement}
 use Rattle.packing.proofs.reading.beginning.Tie as tie

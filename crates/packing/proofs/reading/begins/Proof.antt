@@ -1,7 +1,7 @@
 -- `packing::reading::begins` meets its contract. Assumes nothing.
 use borrow.Author.Needs.{needs}
-use mathlib.Core.Path.{_≡_, refl, sym, ap, _∙_}
-use Rattle.packing.specs.Reading.{isBetween, beganAt}
+use mathlib.Core.Path.{sym, _∙_}
+use Rattle.packing.specs.Reading.{beganAt}
 use Rattle.packing.proofs.reading.begins.Statement.{statement}
 use Rattle.packing.proofs.reading.begins.Tie as tie
 

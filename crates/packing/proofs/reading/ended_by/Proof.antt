@@ -1,7 +1,7 @@
 -- `packing::reading::ended_by` meets its contract. Assumes nothing.
 use borrow.Author.Needs.{needs}
-use mathlib.Core.Path.{_≡_, refl, sym, ap, _∙_}
-use Rattle.packing.specs.Reading.{isWordByte, endedBy}
+use mathlib.Core.Path.{sym, _∙_}
+use Rattle.packing.specs.Reading.{endedBy}
 use Rattle.packing.proofs.reading.ended_by.Statement.{statement}
 use Rattle.packing.proofs.reading.ended_by.Tie as tie
 

@@ -2,11 +2,11 @@
 use Prim.Native.Nat.{ℕ, zero, suc, _-_, _≤_}
 use borrow.Author.Needs.{needs}
 use lib.IntN.{negsuc}
-use mathlib.Core.Bool.{true, false}
-use mathlib.Core.Path.{_≡_, refl, sym, ap, _∙_}
+use mathlib.Core.Bool.{true}
+use mathlib.Core.Path.{_≡_, refl, ap, _∙_}
 use mir.Facts.{toZ-ofZ}
 use native.Mathlib.Omega.{arith}
-use Rattle.packing.specs.Reading.{signedOf, limit}
+use Rattle.packing.specs.Reading.{signedOf}
 use Rattle.whole.specs.Ranges.{back}
 use Rattle.packing.proofs.reading.signed.Statement.{statement}
 use Rattle.packing.proofs.reading.signed.Tie as tie

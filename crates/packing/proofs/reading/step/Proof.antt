@@ -1,10 +1,10 @@
 -- `packing::reading::step` meets its contract. Assumes nothing.
-use Prim.Native.Nat.{ℕ, _+_, _-_, _*_, _≤_, _<_}
+use Prim.Native.Nat.{_+_, _-_}
 use borrow.Author.Needs.{needs}
-use borrow.Author.Tests.{lt-ltb, le-ltb, le-leb, lt-leb, eq-eqb, ne-eqb}
-use mathlib.Core.Path.{_≡_, refl, sym, ap, _∙_}
+use borrow.Author.Tests.{eq-eqb, ne-eqb}
+use mathlib.Core.Path.{_≡_, sym, _∙_}
 use native.Mathlib.Omega.{arith}
-use Rattle.packing.specs.Reading.{beganAt, step}
+use Rattle.packing.specs.Reading.{step}
 use Rattle.packing.proofs.reading.step.Statement.{statement}
 use Rattle.packing.proofs.reading.step.Tie as tie
 

@@ -1,6 +1,5 @@
 -- `packing::reading::white` meets its contract. Assumes nothing.
-use borrow.Author.Needs.{needs}
-use borrow.Author.Tests.{lt-ltb, le-ltb, le-leb, lt-leb, eq-eqb, ne-eqb}
+use borrow.Author.Tests.{le-leb, lt-leb, eq-eqb, ne-eqb}
 use Rattle.packing.proofs.reading.white.Statement.{statement}
 use Rattle.packing.proofs.reading.white.Tie as tie
 

@@ -1,8 +1,8 @@
 -- `packing::reading::word_byte` meets its contract. Assumes nothing.
 use borrow.Author.Needs.{needs}
-use borrow.Author.Tests.{lt-ltb, le-ltb, le-leb, lt-leb, eq-eqb, ne-eqb}
+use borrow.Author.Tests.{eq-eqb, ne-eqb}
 use mathlib.Core.Bool.{not}
-use mathlib.Core.Path.{_≡_, refl, sym, ap, _∙_}
+use mathlib.Core.Path.{ap}
 use Rattle.packing.proofs.reading.word_byte.Statement.{statement}
 use Rattle.packing.proofs.reading.word_byte.Tie as tie
 

@@ -3,7 +3,6 @@ use Prim.Native.Nat.{ℕ, _/_, _%_}
 use borrow.Author.Needs.{needs}
 use lib.Dec.{eqb}
 use lib.IntN.{natAbs}
-use mathlib.Core.List.{List}
 use mathlib.Core.Path.{_≡_, _∙_}
 use Rattle.dates.specs.Calendar.{dateFor}
 use Rattle.dates.specs.declared.Date.{Date}
