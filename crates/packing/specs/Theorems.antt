@@ -1,5 +1,5 @@
 -- A text is read word by word: bytes of a word with a byte behind them that is none's end what `wordSays` says of them, in their line and at their place in it
--- (`word-read`), and so do those at the end of the text (`last-word-read`). Assumes nothing.
+-- (`word-read`), and so do those at the end of the text (`last-word-read`); a comment is passed over up to its line feed (`comment-read`). Assumes nothing.
 use mathlib.Core.Path.{_≡_, refl, sym, ap, _∙_}
 use mathlib.Core.Bool.{Bool, true, false, cond, not, _&&_, _||_}
 use mathlib.Core.List.{List, [], _∷_, _++_, append-nil}
@@ -201,3 +201,23 @@ module _ (line word byte : ℕ) (bytes : List ℕ) (w : eachByte isWordByte (byt
       ap (λ (l : List ℕ). scan (state line word Between) (byte ∷ l)) (sym (append-nil bytes))
       ∙ leaves []
       ∙ (unfold scan in rw (word-ends byte bytes) (same-place (wordSays (byte ∷ bytes)) line (word + 1) (behind Between (byte ∷ bytes)) (numbers [])))
+
+-- ---- a comment: nothing ends and nothing begins before the line feed, 10
+nothing-ends : (byte : ℕ) → endedBy Comment byte ≡ Nothing
+unfolding endedBy endOf
+nothing-ends byte = go (isWordByte byte)
+  where
+    go : (b : Bool) → cond b Nothing Nothing ≡ Nothing
+    go true = refl
+    go false = refl
+
+step-comment : (line word byte : ℕ) → eqb byte 10 ≡ false → step (state line word Comment) byte ≡ state line word Comment
+unfolding step beganAt atNext
+step-comment line word byte e = let none : word + 0 ≡ word = omega arith in rw (e, none)
+
+pub comment-read : (line word : ℕ) (bytes rest : List ℕ) → eachByte (λ (byte : ℕ). not (eqb byte 10)) bytes ≡ true → scan (state line word Comment) (bytes ++ rest) ≡ scan (state line word Comment) rest
+unfolding scan
+comment-read line word [] rest h = refl
+comment-read line word (byte ∷ bytes) rest h =
+    let b = both (not (eqb byte 10)) (eachByte (λ (x : ℕ). not (eqb x 10)) bytes) h in
+    rw (nothing-ends byte, step-comment line word byte (not-true (eqb byte 10) (b .0))) (comment-read line word bytes rest (b .1))
