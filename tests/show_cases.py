@@ -1,9 +1,9 @@
 #!/usr/bin/env python3
 """Writes what crates/show_cases must print, and the files that it shows.
 
-show_cases.py          works out crates/show_cases/stdout from the files under data/: a file is judged by document 01's sentences ("Almanac file"), and shown as
-                       docs/RULES.md says. It shares no code with the proved library.
-show_cases.py FILE     first writes those files anew: suis cut from FILE, a real almanac, and the same damaged in several ways
+show_cases.py              works out crates/show_cases/stdout from the files under data/: a file is judged by document 01's sentences ("Almanac file") and shown in
+                           columns of fixed width. It shares no code with the proved library.
+show_cases.py FILE         first writes those files anew: suis cut from FILE, a real almanac, and the same damaged in several ways
 show_cases.py --random N   compares the program with it on N random files, lawful and damaged (a fixed seed); it is proved and built first
 """
 import datetime
