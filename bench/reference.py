@@ -144,10 +144,10 @@ def random_input(rng):
     return data
 
 
-def built_program():
+def built_program(name='list'):
     """The words that run the proved program as the launcher does: by the toolchain's loader, and its emulator where the machine is no x86-64."""
     here = os.path.dirname(os.path.dirname(os.path.realpath(__file__)))
-    done = subprocess.run(['rt', 'check', 'list'], cwd=here, stdout=subprocess.PIPE, stderr=subprocess.STDOUT)
+    done = subprocess.run(['rt', 'check', name], cwd=here, stdout=subprocess.PIPE, stderr=subprocess.STDOUT)
     if done.returncode:
         sys.exit(done.stdout.decode()[-2000:] + 'the program is not proved')
     guide = subprocess.run(['rt', 'doc'], stdout=subprocess.PIPE, check=True).stdout.decode().strip()
@@ -155,7 +155,7 @@ def built_program():
     emulator, loader = os.path.join(tools, 'bin/qemu-x86_64'), os.path.join(tools, 'lib/ld-linux-x86-64.so.2')
     words = [emulator] if os.access(emulator, os.X_OK) else []
     words += [loader, '--library-path', os.path.join(tools, 'lib')] if os.access(loader, os.X_OK) else []
-    return words + [os.path.join(here, 'target/bin/list')]
+    return words + [os.path.join(here, 'target/bin', name)]
 
 
 def main():

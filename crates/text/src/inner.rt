@@ -7,7 +7,7 @@ ghost use lib.ListN.{length, take, drop};
 ghost use Rattle.text.specs.Text as text;
 
 // The digit of n at a unit.
-fn digit(n: u64, unit: u64) -> u8
+pub fn digit(n: u64, unit: u64) -> u8
     requires { ⌜ 1 ≤ unit ⌝ }
     ensures { λ r. ⌜ r ≡ text.digit n unit ⌝ }
 {

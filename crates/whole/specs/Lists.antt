@@ -1,15 +1,21 @@
 -- A list with a part put over what stood there, and the laws of it: two parts one behind the other are one part, and what stands before and behind stays.
 -- Over any element. Assumes nothing.
 use mathlib.Core.Path.{_≡_, sym, ap, ap₂, _∙_}
-use mathlib.Core.List.{List, _++_, append-assoc}
+use mathlib.Core.List.{List, [], _++_, append-assoc, append-nil}
 use Prim.Native.Nat.{ℕ, _+_, _≤_}
 use native.Mathlib.Omega.{arith}
-use lib.ListN.{length, take, drop, length-append, length-drop}
+use lib.ListN.{length, take, drop, length-append, length-drop, take-append-drop}
 use lib.Seq.{take-at, drop-at, drop-drop, length-take-le}
 
 -- l with `part` from `at` on
 abbrev pub placed : {A : Type 0} → ℕ → List A → List A → List A
 placed at part l = take at l ++ part ++ drop (at + length part) l
+
+-- no part at all
+pub placed-none : {A : Type 0} (l : List A) (at : ℕ) → l ≡ placed at [] l
+placed-none {A} l at =
+    let none : at + 0 ≡ at = omega arith in
+    sym (ap (λ (n : ℕ). take at l ++ [] ++ drop n l) none ∙ ap (λ (x : List A). x ++ drop at l) (append-nil (take at l)) ∙ take-append-drop at l)
 
 module _ {A : Type 0} (l first : List A) (at : ℕ) where
   -- what stands before a part and with it

@@ -8,7 +8,7 @@ ghost use Rattle.whole.specs.Lists.{placed};
 ghost use Rattle.words.specs.Words.{byte, pattern4, unsigned4, signed4, word8, words, half4, half8, patternBelow, le4, bytes1, bytes4, bytes8};
 
 // -k - 1.
-fn below_zero(k: u64) -> i64
+pub fn below_zero(k: u64) -> i64
     requires { ⌜ k < 9223372036854775808 ⌝ }
     ensures { λ r. ⌜ r ≡ negsuc k ⌝ }
 {

@@ -122,7 +122,7 @@ module _ (c : Content) (r : Rules c) where
       unfolding goodMonth
       month-parts = both _ _ (every-at (goodMonth (c .months) (yearAt (c .suis) i) (countAt (c .suis) i) (monthsBefore (c .suis) i)) (natAbs (countAt (c .suis) i)) (months-parts .0) place k)
 
-      handle-is : (monthAt (c .months) (monthsBefore (c .suis) i + place) .handle ≡ handleAt (yearAt (c .suis) i) 13 (place - leapsBefore (c .months) (monthsBefore (c .suis) i) place)) ⊎ (monthAt (c .months) (monthsBefore (c .suis) i + place) .handle ≡ handleAt (yearAt (c .suis) i) place place)
+      pub handle-is : (monthAt (c .months) (monthsBefore (c .suis) i + place) .handle ≡ handleAt (yearAt (c .suis) i) 13 (place - leapsBefore (c .months) (monthsBefore (c .suis) i) place)) ⊎ (monthAt (c .months) (monthsBefore (c .suis) i + place) .handle ≡ handleAt (yearAt (c .suis) i) place place)
       unfolding goodHandle
       handle-is =
           let h = monthAt (c .months) (monthsBefore (c .suis) i + place) .handle in
@@ -153,7 +153,7 @@ module _ (c : Content) (r : Rules c) where
               let is : h ≡ pos 32 *ℤ y +ℤ pos n = e ∙ (unfold handleAt handle in refl) in
               counted-in 4294967296 h (⇑ ρ (search ring depth 9) (omega (arith, ⇓ ρ is (search ring depth 9)))) (⇑ ρ (search ring depth 9) (omega (arith, ⇓ ρ is (search ring depth 9))))
 
-      days-parts : (goodStart (c .months) (monthsBefore (c .suis) i + place) ≡ true) × ((inRange (pos 29) (pos 30) (monthAt (c .months) (monthsBefore (c .suis) i + place) .length) ≡ true) × (hasDate (monthAt (c .months) (monthsBefore (c .suis) i + place) .first +ℤ monthAt (c .months) (monthsBefore (c .suis) i + place) .length -ℤ pos 1) ≡ true))
+      pub days-parts : (goodStart (c .months) (monthsBefore (c .suis) i + place) ≡ true) × ((inRange (pos 29) (pos 30) (monthAt (c .months) (monthsBefore (c .suis) i + place) .length) ≡ true) × (hasDate (monthAt (c .months) (monthsBefore (c .suis) i + place) .first +ℤ monthAt (c .months) (monthsBefore (c .suis) i + place) .length -ℤ pos 1) ≡ true))
       unfolding goodDays
       days-parts =
           let a = both (goodStart (c .months) (monthsBefore (c .suis) i + place)) _ (month-parts .1) in

@@ -1,0 +1,4 @@
+pub mod Widths
+pub mod Dated
+pub mod Putting
+pub mod Reading
