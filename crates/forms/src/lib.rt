@@ -18,6 +18,8 @@ ghost use Rattle.clock.specs.Clock.{utc8};
 ghost use Rattle.sui.specs.Sui.{suiFor};
 ghost use Rattle.forms.specs.Forms.{seriesOf, inputsOf};
 
+pub mod records;
+
 // A series of either body: its start second and its coefficients, fourteen a segment.
 pub struct Series<'a> {
     pub start: Second,
