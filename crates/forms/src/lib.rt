@@ -63,12 +63,7 @@ pub fn list_marks<'a>(body: Body, given: Series<'a>, out: &mut [i64]) -> ListAns
 }
 
 // The months of sui `year`, by UTC+8 days.
-pub fn sui<'l, 'a, 'b>(
-    leap: &'l [i64],
-    sun: Series<'a>,
-    moon: Series<'b>,
-    year: i64,
-) -> SuiAnswer
+pub fn sui<'l, 'a, 'b>(leap: &'l [i64], sun: Series<'a>, moon: Series<'b>, year: i64) -> SuiAnswer
     ensures { λ r. ⌜ r ≡ suiAnswer (suiFor (inputsOf (now (leap .entry)) (sun .entry) (moon .entry)) utc8 year) ⌝ }
 {
     sui::sui(leap, sun.start, sun.coefs, moon.start, moon.coefs, year)

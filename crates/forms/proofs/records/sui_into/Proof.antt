@@ -255,12 +255,19 @@ module _ {M : Type 1} (𝓤 : URA M) (H : Heap 𝓤) (A : Atoms 𝓤) (W : Given
 self-meets : {M : Type 1} (𝓤 : URA M) (H : Heap 𝓤) (A : Atoms 𝓤) (W : Given 𝓤 H A) (mem : Memory → SProp 𝓤) (run : Routine → Fun 𝓤) (𝓣 : Tables 𝓤 H)
     → Triple 𝓤 (𝓣 .C #sui-of) (SuiOf 𝓤 H A mem run) → Triple 𝓤 (𝓣 .C #store) (Store 𝓤 H A mem run)
     → Meets 𝓤 H A self.signature (WpFn 𝓤 H (𝓣 .C) (𝓣 .Λ) code.function) (self.spec 𝓤 H A mem run)
-self-meets 𝓤 H A W mem run 𝓣 known-sui known-store = walk-meets 𝓤 H A self.ended stayed W
+self-meets 𝓤 H A W mem run 𝓣 known-sui known-store = walk-meets 𝓤 H A self.ended stayed W (
+  goes-none-slice 𝓤 H A W 4 (0 ∷ []) tt (plain (λ _. i64)) yes,
+  (
+    goes-none 𝓤 H A W 4 (λ _. N.the-row) yes (λ κs x f. refl),
     (
-      goes-none-slice 𝓤 H A W 4 (0 ∷ []) tt (plain (λ _. i64)) yes,
-      (goes-none 𝓤 H A W 4 (λ _. N.the-row) yes (λ κs x f. refl), (goes-none-slice 𝓤 H A W 4 (1 ∷ []) tt (plain (λ _. i64)) yes, (goes-none 𝓤 H A W 4 (λ _. N.the-row) yes (λ κs x f. refl),
-      (goes-none-slice 𝓤 H A W 4 (2 ∷ []) tt (plain (λ _. i64)) yes, (goes-none 𝓤 H A W 4 (λ _. i64) yes (λ κs x f. refl), (goes-gave-slice 𝓤 H A W 4 3 tt (plain (λ _. R)), tt)))))),
-    )
+      goes-none-slice 𝓤 H A W 4 (1 ∷ []) tt (plain (λ _. i64)) yes,
+      (
+        goes-none 𝓤 H A W 4 (λ _. N.the-row) yes (λ κs x f. refl),
+        (goes-none-slice 𝓤 H A W 4 (2 ∷ []) tt (plain (λ _. i64)) yes, (goes-none 𝓤 H A W 4 (λ _. i64) yes (λ κs x f. refl), (goes-gave-slice 𝓤 H A W 4 3 tt (plain (λ _. R)), tt))),
+      ),
+    ),
+  ),
+)
     (self.clauses 𝓤 H A mem run) (WpFn 𝓤 H (𝓣 .C) (𝓣 .Λ) code.function) (WpFn-mono 𝓤 H (W .laws) 𝓣 code.function)
     (self-walks 𝓤 H A W mem run (𝓣 .C) (𝓣 .Λ) (fmOf 𝓤 H (W .laws) 𝓣) known-sui known-store)
 
