@@ -1,15 +1,13 @@
 -- A sui of the month rule has all the months it counts, 12 or 13, so that `months_into` and `sui_into` answer its count and store each of its months. Assumes nothing.
-use mathlib.Core.Path.{_≡_, ap, sym, _∙_}
-use mathlib.Core.List.{List, _++_}
-use Prim.Native.Nat.{ℕ, _≤_, _+_}
+use mathlib.Core.Path.{_≡_}
+use mathlib.Core.List.{List}
 use native.Mathlib.Omega.{arith}
 use lib.IntN.{ℤ}
-use lib.ListN.{length, take, replicate, length-take, length-append}
+use lib.ListN.{length, length-take, length-append}
 use Rattle.whole.specs.Tabulated.{length-tabulate}
 use Rattle.refusals.specs.Verdict.{answered}
 use Rattle.months.specs.declared.Sui.{Sui}
-use Rattle.months.specs.Handles.{noMonth}
-use Rattle.months.specs.Months.{monthAt, numbered}
+use Rattle.months.specs.Months.{numbered}
 use Rattle.months.specs.Limits.{monthsOf}
 use Rattle.months.specs.Theorems.{accepted-is-sui}
 use Rattle.months.specs.theory.Suis as suis

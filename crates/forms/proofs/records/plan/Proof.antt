@@ -1,3 +1,4 @@
+-- `forms::records::plan` meets its contract. In the needs, `start` is the function's entry. Assumes nothing.
 use mathlib.Core.Path.{ap, _∙_}
 use borrow.Author.Needs.{needs}
 use borrow.Author.Tests.{lt-ltb, le-ltb}
@@ -5,34 +6,32 @@ use Rattle.refusals.specs.Verdict.{answered}
 use Rattle.forms.proofs.Stored.{plan-refused, plan-short, plan-fits}
 use Rattle.forms.proofs.records.plan.Statement.{statement}
 use Rattle.forms.proofs.records.plan.Tie as tie
-use Rattle.forms.proofs.records.plan.Reads as reads
-use Rattle.forms.proofs.records.plan.Lts as lts
-use Rattle.forms.proofs.records.record_count.Reads as record-count-reads
 
--- src/records.rt:43:27
 enum-known-check : tie.Need-enum-known-check
 enum-known-check c = search needs
 
--- src/records.rt:44:9
+-- what was found is a refusal
 returns : tie.Need-returns
-returns c = let start = c .before .before .before in plan-refused (start .args .found) (start .args .room) _ (c .before .check .given .1)
+returns c = let told = c .before in let start = told .before .before in plan-refused (start .args .found) (start .args .room) _ (told .check .given .1)
 
 enum-told : tie.Need-enum-told
 enum-told c = search needs
 
--- src/records.rt:46:9
 record-count-requires : tie.Need-record-count-requires
 record-count-requires c κs = search needs
 
--- src/records.rt:48:9
+-- there is less room than records
 returns-2 : tie.Need-returns-2
-returns-2 c = let counted = c .before in let start = counted .before .before .before in plan-short (start .args .found) (start .args .room) (counted .before .enum-told .given .1) (rw (← counted .record-count .ensures) (lt-ltb _ _ (c .if1 .taken)))
+returns-2 c =
+    let counted = c .before in
+    let start = counted .before .before .before in
+    plan-short (start .args .found) (start .args .room) (counted .before .enum-told .given .1) (rw (← counted .record-count .ensures) (lt-ltb _ _ (c .if1 .taken)))
 
--- src/records.rt:39:1
 returns-3 : tie.Need-returns-3
-returns-3 c = let counted = c .before in let start = counted .before .before .before in ap answered (counted .record-count .ensures) ∙ plan-fits (start .args .found) (start .args .room) (counted .before .enum-told .given .1) (rw (← counted .record-count .ensures) (le-ltb _ _ (c .if1 .left)))
+returns-3 c =
+    let counted = c .before in
+    let start = counted .before .before .before in
+    ap answered (counted .record-count .ensures) ∙ plan-fits (start .args .found) (start .args .room) (counted .before .enum-told .given .1) (rw (← counted .record-count .ensures) (le-ltb _ _ (c .if1 .left)))
 
 pub plan-spec : {M : Type 1} → statement M
-plan-spec =
-    tie.close
-    (tie.spec enum-known-check returns enum-told record-count-requires returns-2 returns-3)
+plan-spec = tie.close (tie.spec enum-known-check returns enum-told record-count-requires returns-2 returns-3)

@@ -1,4 +1,4 @@
--- `forms::records::record_at` meets its contract. Assumes nothing.
+-- `forms::records::record_at` meets its contract. In the needs, `start` is the function's entry. Assumes nothing.
 use mathlib.Core.Path.{_≡_}
 use native.Mathlib.Omega.{arith}
 use lib.ListN.{length}
@@ -9,18 +9,16 @@ use Rattle.forms.proofs.records.record_at.Tie as tie
 use Rattle.forms.proofs.records.record_at.Reads as reads
 use Rattle.forms.proofs.records.record_at.Lts as lts
 
+-- there are 13 places
 at-thirteen : (c : lts.Start reads.Pre reads.Post) → length (c .args .found .sui .months) ≡ 13
 at-thirteen c = thirteen (c .args .found .sui) (sui-is (c .args .found) (c .good .0) .1)
 
--- src/records.rt:70:5
 mul-result : tie.Need-mul-result
-mul-result c = record { fits = omega (arith, at-thirteen (c .before .before), c .before .before .pre) }
+mul-result c = let start = c .before .before in record { fits = omega (arith, at-thirteen start, start .pre) }
 
--- src/records.rt:70:5
 array-copy-out-result : tie.Need-array-copy-out-result
-array-copy-out-result c = omega (arith, at-thirteen (c .before .before), c .before .before .pre)
+array-copy-out-result c = let start = c .before .before in omega (arith, at-thirteen start, start .pre)
 
--- src/records.rt:64:1
 returns : tie.Need-returns
 returns c = search needs
 
