@@ -26,7 +26,7 @@ use sound.WpLaws.{FmC, fmOf, WpFn-mono}
 use denote.RattleType.{RattleType, owns}
 use denote.Laws.{Is, shows}
 use denote.Builtin.{i64}
-use denote.Ref.{RefT}
+use denote.Ref.{RefT, now}
 use denote.Signature.{plain, namedLft}
 use denote.Slice.{sliceVal, ShrSlice, MutSlice, Room, finally, slice-vals, mut-slice-tells}
 use denote.Steps.{peeks, heard, nothing}
@@ -43,6 +43,7 @@ use denote.Exit.{yes}
 use denote.Triple.Clauses.{ensured, lasts}
 use Rattle.times.specs.declared.Second.{Second}
 use Rattle.times.proofs.Second as N
+use Rattle.series.specs.Series.{series}
 use Rattle.series.specs.declared.Body.{Body}
 use Rattle.series.proofs.Body as B
 use Rattle.series.proofs.Body.Laws as B′
@@ -56,7 +57,6 @@ use Rattle.marks.proofs.list_marks as callee
 use Rattle.marks.proofs.list_marks.Symbol as callee-def
 use Rattle.marks.proofs.list_marks.Symbol.{name as #marks·list-marks}
 use Rattle.marks.proofs.list_marks.Met as callee-thm
-use Rattle.forms.specs.Forms.{seriesOf}
 use Rattle.forms.specs.declared.Series.{Series}
 use Rattle.forms.proofs.Taken.{sliced, body-val, second-val, SeriesOwn, SliceOwn, IsBody, IsSecond, start-is, says-both, coefs-out, has-body, has-second}
 use Rattle.forms.proofs.Series as T
@@ -132,15 +132,15 @@ module _ {M : Type 1} (𝓤 : URA M) (H : Heap 𝓤) (A : Atoms 𝓤) (W : Given
       use0 W (‵ (B.the-row .own body (body-val body ∷ []))) (has-body 𝓤 H A W body is-body) $ fjoin ! $
       move ! (2 ∷ 0 ∷ []) $ use2 W (raw (Callee 𝓤 H A mem run .pre to)) asked $ frame ! $ done !
 
-  -- what the callee ensures, and this function
+  -- what the callee promises, over what it is passed
   abbrev listed : Verdict ℕ
-  listed = listedInto (seriesOf body d) (length ys)
+  listed = listedInto (series body (d .start .0) (now (d .coefs))) (length ys)
 
   abbrev Answers : ListAnswer → Type 0
   Answers r = paperList r ≡ listed
 
   abbrev Holding : List ℤ → Type 0
-  Holding zs = zs ≡ writtenInto listed (wordsListed (seriesOf body d)) ys
+  Holding zs = zs ≡ writtenInto listed (wordsListed (series body (d .start .0) (now (d .coefs)))) ys
 
   exits : (r : ListAnswer) (w : Val) (zs : List ℤ) → Answers r × Holding zs → length zs ≡ length ys
       → ent 𝓤 (⋆ 𝓤 H A ((‵ (flft κ q) ⊛ ‵ (flft κ′ q′) ⊛ ‵ ftrue) ∷ ‵ (finally i64 γ zs) ∷ ‵ (S.the-row .own r (w ∷ [])) ∷ ‵ Own ∷ [])) (Post w)

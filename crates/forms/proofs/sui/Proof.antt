@@ -44,6 +44,7 @@ use denote.Triple.Clauses.{ensured, lasts}
 use Rattle.times.specs.declared.Second.{Second}
 use Rattle.times.proofs.Second as N
 use Rattle.clock.specs.Clock.{utc8}
+use Rattle.inputs.specs.Inputs.{inputs}
 use Rattle.months.specs.Answers.{suiAnswer}
 use Rattle.months.specs.declared.SuiAnswer.{SuiAnswer}
 use Rattle.months.proofs.SuiAnswer as S
@@ -53,7 +54,6 @@ use Rattle.sui.proofs.sui as callee
 use Rattle.sui.proofs.sui.Symbol as callee-def
 use Rattle.sui.proofs.sui.Symbol.{name as #sui·sui}
 use Rattle.sui.proofs.sui.Met as callee-thm
-use Rattle.forms.specs.Forms.{inputsOf}
 use Rattle.forms.specs.declared.Series.{Series}
 use Rattle.forms.proofs.Taken.{sliced, num, second-val, SeriesOwn, SliceOwn, IsSecond, start-is, coefs-out, has-second, has-i64}
 use Rattle.forms.proofs.Series as T
@@ -144,8 +144,9 @@ module _ {M : Type 1} (𝓤 : URA M) (H : Heap 𝓤) (A : Atoms 𝓤) (W : Given
       -- [what the callee's parameters own; Moon; Sun; Leap; the tokens]
       move ! (4 ∷ 0 ∷ []) $ use2 W (raw (Callee 𝓤 H A mem run .pre to)) asked $ move ! (0 ∷ 3 ∷ 2 ∷ 1 ∷ []) $ done !
 
+  -- what the callee promises, over what it is passed
   abbrev found : SuiAnswer
-  found = suiAnswer (suiFor (inputsOf (now leap) sun moon) utc8 year)
+  found = suiAnswer (suiFor (inputs (now leap) (sun .start .0) (now (sun .coefs)) (moon .start .0) (now (moon .coefs))) utc8 year)
 
   -- of the callee's `ensured`, the clause alone: it has no `&mut`, so what is said of last values is dropped
   said : (r : SuiAnswer) → ent 𝓤 (ensured 𝓤 H A callee.ended (callee.clauses 𝓤 H A mem run) κs args tt r) (fact 𝓤 (r ≡ found))
