@@ -1,5 +1,6 @@
 -- `forms::records::plan` meets its contract. In the needs, `start` is the function's entry. Assumes nothing.
 use mathlib.Core.Path.{ap, _∙_}
+use native.Mathlib.Omega.{arith}
 use borrow.Author.Needs.{needs}
 use borrow.Author.Tests.{lt-ltb, le-ltb}
 use Rattle.refusals.specs.Verdict.{answered}
@@ -25,13 +26,13 @@ returns-2 : tie.Need-returns-2
 returns-2 c =
     let counted = c .before in
     let start = counted .before .before .before in
-    plan-short (start .args .found) (start .args .room) (counted .before .enum-told .given .1) (rw (← counted .record-count .ensures) (lt-ltb _ _ (c .if1 .taken)))
+    plan-short (start .args .found) (start .args .room) (counted .before .enum-told .given .1) (rw (← counted .record-count .ensures) (lt-ltb (start .args .room) (counted .record-count .result) (omega (arith, c .if1 .taken))))
 
 returns-3 : tie.Need-returns-3
 returns-3 c =
     let counted = c .before in
     let start = counted .before .before .before in
-    ap answered (counted .record-count .ensures) ∙ plan-fits (start .args .found) (start .args .room) (counted .before .enum-told .given .1) (rw (← counted .record-count .ensures) (le-ltb _ _ (c .if1 .left)))
+    ap answered (counted .record-count .ensures) ∙ plan-fits (start .args .found) (start .args .room) (counted .before .enum-told .given .1) (rw (← counted .record-count .ensures) (le-ltb (start .args .room) (counted .record-count .result) (omega (arith, c .if1 .left))))
 
 pub plan-spec : {M : Type 1} → statement M
 plan-spec = tie.close (tie.spec enum-known-check returns enum-told record-count-requires returns-2 returns-3)
