@@ -2,7 +2,9 @@
 // start and coefficients, so each is proved by a walk of its code.
 use marks::CountAnswer;
 use marks::ListAnswer;
+use months::Month;
 use months::SuiAnswer;
+use records::MonthsAnswer;
 use refusals::Check;
 use series::Body;
 use series::ValueAnswer;
@@ -16,7 +18,7 @@ ghost use Rattle.marks.specs.Answers.{paperCount, paperList, countedMarks, list
 ghost use Rattle.months.specs.Answers.{suiAnswer};
 ghost use Rattle.clock.specs.Clock.{utc8};
 ghost use Rattle.sui.specs.Sui.{suiFor};
-ghost use Rattle.forms.specs.Forms.{seriesOf, inputsOf};
+ghost use Rattle.forms.specs.Forms.{seriesOf, inputsOf, paperMonths, recordsInto, all-records, recordsCounted};
 
 pub mod records;
 
@@ -67,4 +69,18 @@ pub fn sui<'l, 'a, 'b>(leap: &'l [i64], sun: Series<'a>, moon: Series<'b>, year:
     ensures { λ r. ⌜ r ≡ suiAnswer (suiFor (inputsOf (now (leap .entry)) (sun .entry) (moon .entry)) utc8 year) ⌝ }
 {
     sui::sui(leap, sun.start, sun.coefs, moon.start, moon.coefs, year)
+}
+
+// The same in a lent list of records: both named forms at once, and the shape of every build over two series.
+pub fn sui_into<'l, 'a, 'b>(
+    leap: &'l [i64],
+    sun: Series<'a>,
+    moon: Series<'b>,
+    year: i64,
+    out: &mut [Month],
+) -> MonthsAnswer
+    ensures { λ r. ⌜ paperMonths r ≡ recordsCounted (recordsInto (suiFor (inputsOf (now (leap .entry)) (sun .entry) (moon .entry)) utc8 year) (length (now (out .entry)))) ⌝ }
+    ensures { λ r. ⌜ now (out .exit) ≡ writtenInto (recordsInto (suiFor (inputsOf (now (leap .entry)) (sun .entry) (moon .entry)) utc8 year) (length (now (out .entry)))) all-records (now (out .entry)) ⌝ }
+{
+    records::sui_into(leap, sun.start, sun.coefs, moon.start, moon.coefs, year, out)
 }
