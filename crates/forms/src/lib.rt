@@ -82,5 +82,13 @@ pub fn sui_into<'l, 'a, 'b>(
     ensures { λ r. ⌜ paperMonths r ≡ recordsCounted (recordsInto (suiFor (inputsOf (now (leap .entry)) (sun .entry) (moon .entry)) utc8 year) (length (now (out .entry)))) ⌝ }
     ensures { λ r. ⌜ now (out .exit) ≡ writtenInto (recordsInto (suiFor (inputsOf (now (leap .entry)) (sun .entry) (moon .entry)) utc8 year) (length (now (out .entry)))) all-records (now (out .entry)) ⌝ }
 {
-    records::sui_into(leap, sun.start, sun.coefs, moon.start, moon.coefs, year, out)
+    records::sui_into(
+        leap,
+        sun.start,
+        sun.coefs,
+        moon.start,
+        moon.coefs,
+        year,
+        out,
+    )
 }
