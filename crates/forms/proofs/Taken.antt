@@ -1,10 +1,5 @@
--- What the walks over a `Series` share.
---     sliced, num              the machine value of a lent slice, and of a signed number
---     SeriesOwn, SliceOwn      what a `Series` owns, and what its coefficients own
---     coefs-out                a `Series` is Copy: what it owns gives what its coefficients own, and is kept
---     says-both                two clauses of an `ensures`, said at exit
---     has-body, has-second, has-i64     what plain data owns is had for nothing, from what is known of its machine value
--- Assumes `Given`.
+-- What the walks of this crate share: machine values (`sliced`, `num`, ..), what a `Series` and its coefficients own, how the one is taken from the other (`coefs-out`: the struct is Copy, so what it owns is kept), what
+-- plain data owns, which is had for nothing (`has-body`, ..), and two clauses said at exit (`says-both`). Assumes `Given`.
 use mathlib.Core.Path.{_≡_, refl}
 use Prim.Native.Nat.{_<_, _^_}
 use mathlib.Core.List.{List, [], _∷_}

@@ -1,10 +1,5 @@
--- `forms::records::store` meets its contract: a walk of its MIR, by hand, with a loop and no other branch. All that the proof knows of `plan`, `planned` and `record_at` is that each meets its
--- contract.
---     exits                   from what is had at exit to the `post` of `walkOf`
---     At i                    what is had at the loop's head after i turns: the borrow is open, and its elements are `stored ys ms i`
---     more, ends, loops       a turn that stores a record; the turn that leaves the loop, up to the function's end; the loop, with the number of turns left for the variant
---     plans, counts, opens    the way to the loop: the answer, the number of turns, the borrow
--- Assumes nothing.
+-- `forms::records::store` meets its contract: a walk of its MIR, by hand, with a loop and no other branch. All that the proof knows of `plan`, `planned` and `record_at` is that each meets its contract. At the loop's head
+-- after i turns (`At i`) the borrow is open and its elements are `stored ys ms i`; a turn stores one record (`more`) or leaves the loop (`ends`), and the turns left are the variant (`loops`). Assumes nothing.
 use mathlib.Core.Path.{_≡_, refl, sym, _∙_, ap, subst}
 use Prim.Native.Nat.{ℕ, zero, suc, _+_, _*_, _<_, _^_}
 use native.Mathlib.Nat.{add-zero, zero-add, lt-suc-self, le-refl}
