@@ -18,7 +18,8 @@ use Rattle.marks.specs.declared.CountAnswer.{CountAnswer}
 use Rattle.marks.specs.declared.ListAnswer.{ListAnswer}
 use Rattle.marks.specs.Answers.{paperCount, paperList, countedMarks, listedInto, wordsListed}
 use Rattle.marks.specs.OneResult as of-marks
-use Rattle.inputs.specs.Inputs.{Inputs}
+use Rattle.inputs.specs.Inputs.{Inputs, inputsJudged}
+use Rattle.inputs.specs.Theorems as of-inputs
 use Rattle.months.specs.declared.Month.{Month}
 use Rattle.months.specs.declared.Sui.{Sui}
 use Rattle.months.specs.declared.SuiAnswer.{SuiAnswer}
@@ -50,6 +51,9 @@ module _ (body : Body) (s : Series) where
 
   pub list-marks-one-content : (out a b : List ℤ) → a ≡ writtenInto (listedInto (seriesOf body s) (length out)) (wordsListed (seriesOf body s)) out → b ≡ writtenInto (listedInto (seriesOf body s) (length out)) (wordsListed (seriesOf body s)) out → a ≡ b
   list-marks-one-content = of-marks.list-marks-one-content (seriesOf body s)
+
+pub judge-one-result : (leap : List ℤ) (sun moon : Series) (a b : Check) → paperCheck a ≡ inputsJudged (inputsOf leap sun moon) → paperCheck b ≡ inputsJudged (inputsOf leap sun moon) → a ≡ b
+judge-one-result leap sun moon = of-inputs.judge-one-result (inputsOf leap sun moon)
 
 pub sui-one-result : (leap : List ℤ) (sun moon : Series) (year : ℤ) (a b : SuiAnswer) → a ≡ suiAnswer (suiFor (inputsOf leap sun moon) utc8 year) → b ≡ suiAnswer (suiFor (inputsOf leap sun moon) utc8 year) → a ≡ b
 sui-one-result leap sun moon year = of-sui.sui-one-result (inputsOf leap sun moon) utc8 year

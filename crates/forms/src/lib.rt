@@ -17,6 +17,7 @@ ghost use Rattle.series.specs.Acceptance.{seriesJudged, valueOf, paperValue};
 ghost use Rattle.marks.specs.Answers.{paperCount, paperList, countedMarks, listedInto, wordsListed};
 ghost use Rattle.months.specs.Answers.{suiAnswer};
 ghost use Rattle.clock.specs.Clock.{utc8};
+ghost use Rattle.inputs.specs.Inputs.{inputsJudged};
 ghost use Rattle.sui.specs.Sui.{suiFor};
 ghost use Rattle.forms.specs.Forms.{seriesOf, inputsOf, paperMonths, recordsInto, all-records, recordsCounted};
 
@@ -62,6 +63,13 @@ pub fn list_marks<'a>(body: Body, given: Series<'a>, out: &mut [i64]) -> ListAns
     ensures { λ r. ⌜ now (out .exit) ≡ writtenInto (listedInto (seriesOf body (given .entry)) (length (now (out .entry)))) (wordsListed (seriesOf body (given .entry))) (now (out .entry)) ⌝ }
 {
     marks::list_marks(body, given.start, given.coefs, out)
+}
+
+// What every build begins with: accepts a leap table, a Sun and a Moon, or refuses by 1, by 2 to 5 for the Sun, then for the Moon, or by 7.
+pub fn judge<'l, 'a, 'b>(leap: &'l [i64], sun: Series<'a>, moon: Series<'b>) -> Check
+    ensures { λ r. ⌜ paperCheck r ≡ inputsJudged (inputsOf (now (leap .entry)) (sun .entry) (moon .entry)) ⌝ }
+{
+    inputs::judge(leap, sun.start, sun.coefs, moon.start, moon.coefs)
 }
 
 // The months of sui `year`, by UTC+8 days.
