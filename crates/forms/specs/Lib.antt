@@ -1,0 +1,4 @@
+pub mod Forms
+pub mod OneResult
+pub mod Theorems
+pub mod Examples
