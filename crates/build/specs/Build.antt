@@ -14,13 +14,7 @@ use Rattle.sui.specs.Sui.{suiOfYear}
 use Rattle.almanac.specs.Content.{Content, content}
 use Rattle.almanac.specs.Answers.{bytesInto, bytesCounted}
 
--- ---- "each sui in year order by 8 to 11"
--- the first n from a year on: the first refusal wins
-unfoldable pub suisFrom : Inputs → ℤ → ℤ → ℕ → Verdict (List Sui)
-suisFrom i zone first zero = answered []
-suisFrom i zone first (suc n) = suisFrom i zone first n then λ suis. suiOfYear i zone (first +ℤ pos n) then λ sui. answered (suis ++ (sui ∷ []))
-
--- ---- their records, as the content of a file
+-- ---- the records of suis, as the content of a file
 -- the months that a sui has: behind them its list is filled up
 abbrev pub monthsIn : Sui → List Month
 monthsIn sui = take (sui .count) (sui .months)
@@ -42,20 +36,41 @@ monthWords (sui ∷ suis) = wordsOf (monthsIn sui) ++ monthWords suis
 abbrev pub contentFor : List ℤ → ℤ → List Sui → Content
 contentFor leap first suis = content leap (suiWords first suis) (monthWords suis)
 
-unfoldable pub contentBuilt : Inputs → ℤ → ℤ → ℕ → Verdict Content
-contentBuilt i zone first n = suisFrom i zone first n then λ suis. answered (contentFor (i .leap) first suis)
+-- ---- by a sui for each year, whatever it is
+-- "each sui in year order by 8 to 11": the first n from a year on; the first refusal wins
+unfoldable pub suisBy : (ℤ → Verdict Sui) → ℤ → ℕ → Verdict (List Sui)
+suisBy suiOf first zero = answered []
+suisBy suiOf first (suc n) = suisBy suiOf first n then λ suis. suiOf (first +ℤ pos n) then λ sui. answered (suis ++ (sui ∷ []))
 
--- their bytes; 12 where there is not room for all
-unfoldable pub bytesOfYears : Inputs → ℤ → ℤ → ℕ → ℕ → Verdict (List ℕ)
-bytesOfYears i zone first n room = contentBuilt i zone first n then λ c. bytesInto c room
+unfoldable pub contentBy : List ℤ → (ℤ → Verdict Sui) → ℤ → ℕ → Verdict Content
+contentBy leap suiOf first n = suisBy suiOf first n then λ suis. answered (contentFor leap first suis)
 
--- ---- the whole: 1; Sun 2 to 5; Moon 2 to 5; 7; "after 7 the count is judged, then each sui in year order by 8 to 11, then 12"
-unfoldable pub bytesBuilt : Inputs → ℤ → ℤ → ℤ → ℕ → Verdict (List ℕ)
-bytesBuilt i zone first count room =
-    inputsJudged i
+-- its bytes; 12 where there is not room for all
+unfoldable pub bytesBy : List ℤ → (ℤ → Verdict Sui) → ℤ → ℕ → ℕ → Verdict (List ℕ)
+bytesBy leap suiOf first n room = contentBy leap suiOf first n then λ c. bytesInto c room
+
+-- behind the judgement of the inputs: "after 7 the count is judged, then each sui in year order by 8 to 11, then 12"
+unfoldable pub builtBy : Verdict (Unit {0}) → List ℤ → (ℤ → Verdict Sui) → ℤ → ℤ → ℕ → Verdict (List ℕ)
+builtBy judged leap suiOf first count room =
+    judged
     before refuseWhen (not (inRange (pos 1) (pos 128) count)) 8
-    before bytesOfYears i zone first (natAbs count) room
+    before bytesBy leap suiOf first (natAbs count) room
 
--- how many bytes it has
-unfoldable pub fileBuilt : Inputs → ℤ → ℤ → ℤ → ℕ → Verdict ℕ
-fileBuilt i zone first count room = bytesCounted (bytesBuilt i zone first count room)
+-- ---- by a leap table and two series
+module _ (i : Inputs) (zone : ℤ) where
+  abbrev pub suisFrom : ℤ → ℕ → Verdict (List Sui)
+  suisFrom = suisBy (suiOfYear i zone)
+
+  abbrev pub contentBuilt : ℤ → ℕ → Verdict Content
+  contentBuilt = contentBy (i .leap) (suiOfYear i zone)
+
+  abbrev pub bytesOfYears : ℤ → ℕ → ℕ → Verdict (List ℕ)
+  bytesOfYears = bytesBy (i .leap) (suiOfYear i zone)
+
+  -- the whole: 1; Sun 2 to 5; Moon 2 to 5; 7; 8; each sui; 12
+  abbrev pub bytesBuilt : ℤ → ℤ → ℕ → Verdict (List ℕ)
+  bytesBuilt = builtBy (inputsJudged i) (i .leap) (suiOfYear i zone)
+
+  -- how many bytes it has
+  unfoldable pub fileBuilt : ℤ → ℤ → ℕ → Verdict ℕ
+  fileBuilt first count room = bytesCounted (bytesBuilt first count room)

@@ -27,7 +27,7 @@ use Rattle.almanac.specs.Layout.{bytesOf, fileOf}
 use Rattle.almanac.specs.Answers.{paperWritten, bytesInto, all-bytes}
 use Rattle.almanac.specs.Theorems.{written-is-read}
 use Rattle.almanac.specs.OneResult.{written-apart}
-use Rattle.build.specs.Build.{suisFrom, suiWords, contentFor, contentBuilt, bytesOfYears, bytesBuilt, fileBuilt}
+use Rattle.build.specs.Build.{suisFrom, suiWords, contentFor, contentBuilt, bytesOfYears, bytesBuilt, fileBuilt, builtBy, bytesBy, contentBy}
 use Rattle.build.specs.theory.Words.{length-sui-words}
 use Rattle.build.specs.theory.Years.{suis-are}
 use Rattle.build.specs.theory.Records.{suiAt, suis-whole, year-at, count-at, month-at}
@@ -36,7 +36,7 @@ use Rattle.build.specs.theory.Lawful.{content-is-lawful}
 
 -- a content that was built is that of the suis that were found
 suis-built : (i : Inputs) (zone first : ℤ) (n : ℕ) {c : Content} → contentBuilt i zone first n ≡ answered c → (suis : List Sui) × (suisFrom i zone first n ≡ answered suis) × (contentFor (i .leap) first suis ≡ c)
-unfolding contentBuilt
+unfolding contentBy
 suis-built i zone first n {c} e =
     let found = then-answered (suisFrom i zone first n) (λ suis. answered (contentFor (i .leap) first suis)) c e in
     (found .0, found .1, answers-apart (found .2))
@@ -97,7 +97,7 @@ pub record BuiltFile (i : Inputs) (zone first count : ℤ) (bytes : List ℕ) : 
   pub is-read : fileOf bytes ≡ answered content
 
 pub built-is-read : (i : Inputs) (zone first count : ℤ) (room : ℕ) {bytes : List ℕ} → bytesBuilt i zone first count room ≡ answered bytes → Within 1000 zone → BuiltFile i zone first count bytes
-unfolding bytesBuilt bytesOfYears
+unfolding builtBy bytesBy
 built-is-read i zone first count room {bytes} e small =
     let n = natAbs count in
     let rest = contentBuilt i zone first n then λ c. bytesInto c room in

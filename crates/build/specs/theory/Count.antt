@@ -13,7 +13,7 @@ use Rattle.refusals.specs.Verdict.{Verdict, refused}
 use Rattle.refusals.specs.Lent.{writtenInto}
 use Rattle.inputs.specs.Inputs.{Inputs, inputsJudged, InputsAccepted}
 use Rattle.almanac.specs.Answers.{bytesCounted, all-bytes}
-use Rattle.build.specs.Build.{bytesOfYears, bytesBuilt, fileBuilt}
+use Rattle.build.specs.Build.{bytesOfYears, bytesBuilt, fileBuilt, builtBy}
 use Rattle.build.specs.theory.File.{Promises}
 
 module _ (count : ℤ) (in-range : inRange (pos 1) (pos 128) count ≡ true) where
@@ -33,14 +33,14 @@ module _ (i : Inputs) (zone first count : ℤ) (file : List ℕ) where
   FilePromises v last = (v ≡ fileBuilt i zone first count (length file)) × (last ≡ writtenInto (bytesBuilt i zone first count (length file)) all-bytes file)
 
   pub inputs-refused : {number segment : ℕ} → inputsJudged i ≡ refused number segment → FilePromises (refused number segment) file
-  unfolding fileBuilt bytesBuilt
+  unfolding fileBuilt builtBy
   inputs-refused e = rw e (refl, refl)
 
   module _ (accepted : InputsAccepted i) where
     pub count-refused : inRange (pos 1) (pos 128) count ≡ false → FilePromises (refused 8 0) file
-    unfolding fileBuilt bytesBuilt
+    unfolding fileBuilt builtBy
     count-refused e = rw (accepted, e) (refl, refl)
 
     pub years-built : inRange (pos 1) (pos 128) count ≡ true → {v : Verdict ℕ} {last : List ℕ} → Promises i zone first (natAbs count) file v last → FilePromises v last
-    unfolding fileBuilt bytesBuilt
+    unfolding fileBuilt builtBy
     years-built e p = rw (accepted, e) p

@@ -18,7 +18,7 @@ use Rattle.sui.specs.Sui.{suiOfYear}
 use Rattle.suis.specs.theory.Next.{next-year}
 use Rattle.almanac.specs.Content.{Content, content, lawful}
 use Rattle.almanac.specs.Answers.{bytesInto, bytesCounted, all-bytes}
-use Rattle.build.specs.Build.{suisFrom, wordsOf, monthsIn as monthsOf, suiWords, monthWords, contentFor, contentBuilt, bytesOfYears}
+use Rattle.build.specs.Build.{suisFrom, wordsOf, monthsIn as monthsOf, suiWords, monthWords, contentFor, contentBuilt, bytesOfYears, bytesBy, contentBy, suisBy}
 use Rattle.build.specs.theory.Put.{monthsIn}
 use Rattle.build.specs.theory.Words.{length-sui-words, length-words-of, month-words-snoc}
 use Rattle.build.specs.theory.Years.{SuisOf, suis-are, suis-refused}
@@ -36,7 +36,7 @@ years-found (refused number segment) e = answer-or-refusal e
 
 -- n suis have at most 13 n months
 pub months-few : (i : Inputs) (zone first : ℤ) → Known i → (n : ℕ) {suis : List Sui} → suisFrom i zone first n ≡ answered suis → length (monthWords suis) ≤ 39 * n
-unfolding suisFrom monthWords
+unfolding suisBy monthWords
 months-few i zone first known zero {suis} e = let none : [] ≡ suis = answers-apart e in rw (← none) (omega arith)
 months-few i zone first known (suc n) {suis} e =
     let last = then-answered (suisFrom i zone first n) (λ before. suiOfYear i zone (first +ℤ pos n) then λ sui. answered (before ++ (sui ∷ []))) suis e in
@@ -52,12 +52,12 @@ module _ (i : Inputs) (zone first : ℤ) (n : ℕ) (file : List ℕ) where
   Promises v last = (v ≡ bytesCounted (bytesOfYears i zone first n (length file))) × (last ≡ writtenInto (bytesOfYears i zone first n (length file)) all-bytes file)
 
   pub years-stop : {number segment : ℕ} → suisFrom i zone first n ≡ refused number segment → Promises (refused number segment) file
-  unfolding bytesOfYears contentBuilt
+  unfolding bytesBy contentBy
   years-stop e = rw e (refl, refl)
 
   -- where the first sui cannot begin
   pub first-stops : {number segment : ℕ} → 0 < n → suiOfYear i zone first ≡ refused number segment → Promises (refused number segment) file
-  unfolding suisFrom
+  unfolding suisBy
   first-stops some e =
       let here : first +ℤ pos 0 ≡ first = ⇑ (first ∷ []) (search ring depth 9) refl in
       years-stop (suis-refused i zone first 0 n refl (ap (suiOfYear i zone) here ∙ e) some)
@@ -85,5 +85,5 @@ module _ (i : Inputs) (zone first : ℤ) (n : ℕ) (file : List ℕ) where
       words-lawful k small some few = rw (are-suis, are-months) (content-is-lawful i zone k small first n suis each some few)
 
       pub words-written : {v : Verdict ℕ} {last : List ℕ} → (v ≡ bytesCounted (bytesInto (content (i .leap) s m) (length file))) × (last ≡ writtenInto (bytesInto (content (i .leap) s m) (length file)) all-bytes file) → Promises v last
-      unfolding bytesOfYears contentBuilt
+      unfolding bytesBy contentBy
       words-written p = rw (found, ← are-suis, ← are-months) p

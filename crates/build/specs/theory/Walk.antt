@@ -26,7 +26,7 @@ use Rattle.suis.specs.Ahead.{Ahead, YearAhead, solsticesBefore}
 use Rattle.suis.specs.theory.Begun.{BegunAt}
 use Rattle.suis.specs.theory.Lookups.{ahead-drop}
 use Rattle.suis.specs.theory.Next.{next-year}
-use Rattle.build.specs.Build.{suisFrom, suiWords, monthWords, monthsIn as months-in}
+use Rattle.build.specs.Build.{suisFrom, suiWords, monthWords, monthsIn as months-in, suisBy}
 use Rattle.build.specs.theory.Put.{yearWords, sui-months, monthsIn}
 use Rattle.build.specs.theory.Words.{length-sui-words, sui-words-snoc, month-words-snoc, length-words-of}
 use Rattle.build.specs.theory.Records.{sui-has-its-months}
@@ -69,7 +69,7 @@ reaches {leap} {s} {zone} {place} {most} {days} ahead k h l = go (decLt (length 
 
 module _ (i : Inputs) (zone : ℤ) (suns moons : TurnList) (places : Places) (first : ℤ) (n : ℕ) (b : Begins i zone suns moons places first n) (suis₀ months₀ : List ℤ) where
   pub walk-starts : Walked i zone places first suis₀ months₀ 0 0 suis₀ months₀
-  unfolding suisFrom suiWords monthWords
+  unfolding suisBy suiWords monthWords
   walk-starts =
       let at = b .begins in
       let here : places .solstice + 0 ≡ solsticesBefore (i .leap) (sun i) (moon i) zone first = omega (arith, at .is-place) in

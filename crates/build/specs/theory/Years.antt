@@ -12,17 +12,17 @@ use Rattle.refusals.specs.Verdict.{answered, refused, then-answered, answers-ap
 use Rattle.inputs.specs.Inputs.{Inputs}
 use Rattle.sui.specs.Sui.{suiOfYear}
 use Rattle.months.specs.declared.Sui.{Sui}
-use Rattle.build.specs.Build.{suisFrom}
+use Rattle.build.specs.Build.{suisFrom, suisBy}
 
 module _ (i : Inputs) (zone first : ℤ) where
   -- ---- one more year
   pub suis-next : (n : ℕ) {suis : List Sui} {sui : Sui} → suisFrom i zone first n ≡ answered suis → suiOfYear i zone (first +ℤ pos n) ≡ answered sui → suisFrom i zone first (suc n) ≡ answered (suis ++ (sui ∷ []))
-  unfolding suisFrom
+  unfolding suisBy
   suis-next n e f = rw (e, f)
 
   -- the sui of year j is refused, and those before it are not: then the whole is refused with it
   pub suis-refused : (j n : ℕ) {suis : List Sui} {number segment : ℕ} → suisFrom i zone first j ≡ answered suis → suiOfYear i zone (first +ℤ pos j) ≡ refused number segment → j < n → suisFrom i zone first n ≡ refused number segment
-  unfolding suisFrom
+  unfolding suisBy
   suis-refused j zero e f h = absurd (omega arith)
   suis-refused j (suc n) {suis} {number} {segment} e f h = below j n h (λ l. rw (suis-refused j n {suis = suis} e f l)) (λ q. here (rw q at e) (rw q at f))
     where
@@ -35,7 +35,7 @@ module _ (i : Inputs) (zone first : ℤ) where
     pub each : (j : ℕ) → j < n → (d : Sui) → suiOfYear i zone (first +ℤ pos j) ≡ answered (getD suis j d)
 
   pub suis-are : (n : ℕ) {suis : List Sui} → suisFrom i zone first n ≡ answered suis → SuisOf n suis
-  unfolding suisFrom
+  unfolding suisBy
   suis-are zero e = rw (← answers-apart e) (record { all = refl; each = λ j h d. absurd (omega arith) })
   suis-are (suc n) {suis} e =
       let before = then-answered (suisFrom i zone first n) (λ suis. suiOfYear i zone (first +ℤ pos n) then λ sui. answered (suis ++ (sui ∷ []))) suis e in
