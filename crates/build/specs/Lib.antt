@@ -1,3 +1,4 @@
 pub mod theory
 pub mod Build
 pub mod Theorems
+pub mod Examples
