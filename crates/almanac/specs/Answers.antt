@@ -12,7 +12,7 @@ use Rattle.almanac.specs.declared.FileAnswer.{FileAnswer}
 use Rattle.almanac.specs.declared.FileAnswer.the-variants as file-answer
 use Rattle.almanac.specs.declared.WriteAnswer.{WriteAnswer}
 use Rattle.almanac.specs.declared.WriteAnswer.the-variants as write-answer
-use Rattle.almanac.specs.Content.{Content, entryCount, suiCount, monthCount, lawful}
+use Rattle.content.specs.Content.{Content, entryCount, suiCount, monthCount, lawful}
 use Rattle.almanac.specs.Layout.{bytesOf, fileOf}
 
 abbrev pub paperFile : FileAnswer → Verdict Counts

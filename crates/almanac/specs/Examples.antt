@@ -14,7 +14,7 @@ use Rattle.refusals.specs.Evaluated.{isAccepted, isRefused}
 use Rattle.dates.specs.Answers.{hasDate}
 use Rattle.clock.specs.Leap.{firstEntry, nextEntry, goodEntry, wholePairs, leapLawful}
 use Rattle.months.specs.Handles.{numberAt, leapMark, handle, handleAt}
-use Rattle.almanac.specs.Content.{Content, content, monthsBefore, followsYear, goodSui, leapsBefore, goodHandle, goodStart, goodDays, goodMonth, goodMonths, goodSuiMonths, wholeSuis, lawful}
+use Rattle.content.specs.Content.{Content, content, monthsBefore, followsYear, goodSui, leapsBefore, goodHandle, goodStart, goodDays, goodMonth, goodMonths, goodSuiMonths, wholeSuis, lawful}
 use Rattle.almanac.specs.Fields.{times, numbersIn, bytesFor}
 use Rattle.almanac.specs.Layout.{bytesOf, countsOf, contentAt, contentOf, fileOf}
 use Rattle.almanac.specs.Answers.{checkedFile, contentRead, readFile, bytesToWrite, writtenFile}

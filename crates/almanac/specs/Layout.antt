@@ -10,7 +10,7 @@ use lib.ListN.{length}
 use Rattle.refusals.specs.Verdict.{Verdict, answered, refuseWhen, _before_, _then_}
 use Rattle.words.specs.Words.{pattern4, bytes4}
 use Rattle.almanac.specs.declared.Counts.{Counts}
-use Rattle.almanac.specs.Content.{Content, content, entryCount, suiCount, monthCount, lawful}
+use Rattle.content.specs.Content.{Content, content, entryCount, suiCount, monthCount, lawful}
 use Rattle.almanac.specs.Fields.{Field, one-byte, unsigned, signed, times, numbersIn, bytesFor}
 
 abbrev pub entryFields : List Field

@@ -1,4 +1,3 @@
-pub mod Content
 pub mod Fields
 pub mod Layout
 pub mod Answers

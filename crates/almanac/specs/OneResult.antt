@@ -10,7 +10,7 @@ use Rattle.almanac.specs.declared.FileAnswer.{FileAnswer}
 use Rattle.almanac.specs.declared.FileAnswer.the-variants as file-answer
 use Rattle.almanac.specs.declared.WriteAnswer.{WriteAnswer}
 use Rattle.almanac.specs.declared.WriteAnswer.the-variants as write-answer
-use Rattle.almanac.specs.Content.{Content, leap-words, sui-words, month-words}
+use Rattle.content.specs.Content.{Content, leap-words, sui-words, month-words}
 use Rattle.almanac.specs.Answers.{paperFile, paperWritten, checkedFile, contentRead, readFile, bytesToWrite, all-bytes, writtenFile}
 
 -- ---- the paper tells answers apart

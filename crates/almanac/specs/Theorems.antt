@@ -8,7 +8,7 @@ use borrow.Author.Tests.{not-false}
 use Rattle.refusals.specs.Verdict.{Verdict, answered, refuseWhen, then-answered, test-answered, answers-apart, _before_, _then_}
 use Rattle.words.specs.Theorems.{Bytes}
 use Rattle.almanac.specs.declared.Counts.{Counts}
-use Rattle.almanac.specs.Content.{Content, lawful}
+use Rattle.content.specs.Content.{Content, lawful}
 use Rattle.almanac.specs.Layout.{bytesOf, countsOf, contentAt, contentOf, fileOf}
 use Rattle.almanac.specs.theory.Whole.{found, content-has-bytes, bytes-have-content}
 use Rattle.almanac.specs.theory.Rules.{lawful-fits}

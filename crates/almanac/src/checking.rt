@@ -1,13 +1,13 @@
 // Whether the content that stands in a file is lawful: its sections are read into words of this crate's own, and those are judged.
 use crate::Counts;
-use crate::judging::is_lawful;
 use crate::reading::read_entries;
 use crate::reading::read_months;
 use crate::reading::read_suis;
+use content::inner::is_lawful;
 ghost use mathlib.Core.Path.{_≡_};
 ghost use Prim.Native.Nat.{_≤_};
 ghost use lib.ListN.{length};
-ghost use Rattle.almanac.specs.Content.{lawful};
+ghost use Rattle.content.specs.Content.{lawful};
 ghost use Rattle.almanac.specs.Layout.{endAt, contentAt};
 
 // Room for the words of the largest lawful content: 64 leap entries, 128 suis, 1664 months.

@@ -5,7 +5,7 @@ ghost use mathlib.Core.Path.{_≡_};
 ghost use mathlib.Core.Bool.{true};
 ghost use lib.ListN.{length};
 ghost use Rattle.refusals.specs.Lent.{writtenInto};
-ghost use Rattle.almanac.specs.Content.{content, lawful};
+ghost use Rattle.content.specs.Content.{content, lawful};
 ghost use Rattle.almanac.specs.Answers.{paperWritten, bytesInto, bytesCounted, all-bytes};
 
 // Writes a lawful content into a lent file and says how many bytes it took; 12 where the file is too short.

@@ -3,15 +3,13 @@ use refusals::Refusal;
 ghost use mathlib.Core.Path.{_≡_};
 ghost use lib.ListN.{length};
 ghost use Rattle.refusals.specs.Lent.{writtenInto};
-ghost use Rattle.almanac.specs.Content.{content, leap-words, sui-words, month-words};
+ghost use Rattle.content.specs.Content.{content, leap-words, sui-words, month-words};
 ghost use Rattle.almanac.specs.Answers.{paperFile, paperWritten, checkedFile, contentRead, readFile, bytesToWrite, all-bytes, writtenFile};
 
 mod checking;
 pub mod inner;
-mod judging;
 mod layout;
 mod reading;
-mod suimonths;
 mod writing;
 
 // How many leap entries, suis and months a file has.
@@ -73,7 +71,7 @@ pub fn write_file(leap: &[i64], suis: &[i64], months: &[i64], file: &mut [u8]) -
     ensures { λ r. ⌜ paperWritten r ≡ writtenFile (content (now (leap .entry)) (now (suis .entry)) (now (months .entry))) (length (now (file .entry))) ⌝ }
     ensures { λ r. ⌜ now (file .exit) ≡ writtenInto (bytesToWrite (content (now (leap .entry)) (now (suis .entry)) (now (months .entry))) (length (now (file .entry)))) all-bytes (now (file .entry)) ⌝ }
 {
-    if !judging::is_lawful(leap, suis, months) {
+    if !content::inner::is_lawful(leap, suis, months) {
         return WriteAnswer::Refused(refusals::LAYOUT);
     }
     inner::write_lawful(leap, suis, months, file)

@@ -9,7 +9,7 @@ ghost use lib.IntN.{pos};
 ghost use lib.ListN.{length, drop};
 ghost use Rattle.whole.specs.Lists.{placed};
 ghost use Rattle.words.specs.Words.{bytes4};
-ghost use Rattle.almanac.specs.Content.{content};
+ghost use Rattle.content.specs.Content.{content};
 ghost use Rattle.almanac.specs.Fields.{one-byte, unsigned, signed, times, bytesFor};
 ghost use Rattle.almanac.specs.Layout.{entryFields, suiFields, monthFields, endAt, bytesOf};
 ghost use Rattle.almanac.specs.theory.FieldLaws.{FitsField, Fit};

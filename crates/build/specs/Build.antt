@@ -11,7 +11,7 @@ use Rattle.inputs.specs.Inputs.{Inputs, inputsJudged}
 use Rattle.months.specs.declared.Month.{Month}
 use Rattle.months.specs.declared.Sui.{Sui}
 use Rattle.sui.specs.Sui.{suiOfYear}
-use Rattle.almanac.specs.Content.{Content, content}
+use Rattle.content.specs.Content.{Content, content}
 use Rattle.almanac.specs.Answers.{bytesInto, bytesCounted}
 
 -- ---- the records of suis, as the content of a file

@@ -22,7 +22,7 @@ use Rattle.months.specs.theory.Suis.{month}
 use Rattle.sui.specs.Sui.{suiFor, suiOfYear}
 use Rattle.sui.specs.theory.Answered.{inputs-answered}
 use Rattle.almanac.specs.declared.WriteAnswer.{WriteAnswer}
-use Rattle.almanac.specs.Content.{Content, suiCount, yearAt, countAt, monthAt, monthsBefore, lawful}
+use Rattle.content.specs.Content.{Content, suiCount, yearAt, countAt, monthAt, monthsBefore, lawful}
 use Rattle.almanac.specs.Layout.{bytesOf, fileOf}
 use Rattle.almanac.specs.Answers.{paperWritten, bytesInto, all-bytes}
 use Rattle.almanac.specs.Theorems.{written-is-read}

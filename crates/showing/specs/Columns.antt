@@ -22,7 +22,7 @@ use Rattle.dates.specs.theory.Judged.{day-found, refused-outside-1500-to-2600}
 use Rattle.months.specs.declared.Month.{Month}
 use Rattle.months.specs.Handles.{numberAt, leapMark, handle, handleAt}
 use Rattle.months.specs.theory.Numbering.{number-small, mark-small}
-use Rattle.almanac.specs.Content.{Content, monthCount, monthAt, lawful}
+use Rattle.content.specs.Content.{Content, monthCount, monthAt, lawful}
 use Rattle.almanac.specs.theory.FieldLaws.{Counted}
 use Rattle.almanac.specs.theory.Rules.{Rules, rules, counted-in, year-range, length-range, handle-is, Placed, placed}
 use Rattle.showing.specs.theory.Dated.{dated}

@@ -16,7 +16,7 @@ use Rattle.dates.specs.Calendar.{leapYear, leapYearsTo, newYear, monthLengths, 
 use Rattle.clock.specs.Leap.{firstEntry, nextEntry, goodEntry, wholePairs, leapLawful}
 use Rattle.months.specs.declared.Month.{Month}
 use Rattle.months.specs.Handles.{numberAt, leapMark, handle, handleAt}
-use Rattle.almanac.specs.Content.{monthsBefore, followsYear, goodSui, leapsBefore, goodHandle, goodStart, goodDays, goodMonth, goodMonths, goodSuiMonths, wholeSuis, lawful}
+use Rattle.content.specs.Content.{monthsBefore, followsYear, goodSui, leapsBefore, goodHandle, goodStart, goodDays, goodMonth, goodMonths, goodSuiMonths, wholeSuis, lawful}
 use Rattle.almanac.specs.Fields.{times, numbersIn}
 use Rattle.almanac.specs.Layout.{countsOf, contentAt, contentOf, fileOf}
 use Rattle.showing.specs.Shown.{line, lines, textOf}

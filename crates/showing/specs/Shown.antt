@@ -9,7 +9,7 @@ use Rattle.text.specs.Text.{digit, two, four, date}
 use Rattle.dates.specs.declared.Date.{Date}
 use Rattle.dates.specs.Calendar.{dateFor}
 use Rattle.months.specs.declared.Month.{Month}
-use Rattle.almanac.specs.Content.{Content, monthAt, monthCount}
+use Rattle.content.specs.Content.{Content, monthAt, monthCount}
 
 -- " sui  month  leap  handle  first day   days"
 abbrev pub header : List ℕ

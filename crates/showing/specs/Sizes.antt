@@ -5,7 +5,7 @@ use Prim.Native.Nat.{ℕ, _≤_}
 use native.Mathlib.Omega.{arith}
 use lib.ListN.{length}
 use Rattle.refusals.specs.Verdict.{answered}
-use Rattle.almanac.specs.Content.{Content, monthCount}
+use Rattle.content.specs.Content.{Content, monthCount}
 use Rattle.almanac.specs.Layout.{fileOf}
 use Rattle.almanac.specs.Answers.{countsIn, checkedFile}
 use Rattle.almanac.specs.Theorems.{read-is-lawful}

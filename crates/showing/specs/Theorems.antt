@@ -14,7 +14,7 @@ use Rattle.whole.specs.Solver.{⇑, ⇓, ring}
 use Rattle.months.specs.declared.Month.{Month}
 use Rattle.months.specs.Handles.{numberAt, leapMark, handle, handleAt}
 use Rattle.months.specs.theory.Numbering.{number-small, mark-small}
-use Rattle.almanac.specs.Content.{Content, suiCount, yearAt, countAt, monthAt, monthsBefore, lawful}
+use Rattle.content.specs.Content.{Content, suiCount, yearAt, countAt, monthAt, monthsBefore, lawful}
 use Rattle.almanac.specs.theory.Rules.{Rules, rules, year-range, handle-is}
 use Rattle.showing.specs.Shown.{suiOf, numberOf, isLeap}
 

@@ -11,7 +11,7 @@ ghost use Rattle.refusals.specs.Lent.{writtenInto};
 ghost use Rattle.whole.specs.Lists.{placed};
 ghost use mathlib.Core.Bool.{true};
 ghost use Rattle.dates.specs.Answers.{hasDate};
-ghost use Rattle.almanac.specs.Content.{monthAt};
+ghost use Rattle.content.specs.Content.{monthAt};
 ghost use Rattle.showing.specs.Shown.{line, lines, text};
 ghost use Rattle.showing.specs.Answers.{paperShown, textInto, counted, all-bytes};
 ghost use Rattle.showing.specs.theory.Dated.{Dated};

@@ -3,7 +3,7 @@ use mathlib.Core.Path.{_≡_, sym, _∙_}
 use mathlib.Core.Bool.{true}
 use borrow.Author.Needs.{needs}
 use borrow.Author.Tests.{not-true, not-false}
-use Rattle.almanac.specs.Content.{Content, content, lawful}
+use Rattle.content.specs.Content.{Content, content, lawful}
 use Rattle.almanac.specs.theory.Writer.{not-lawful, is-lawful}
 use Rattle.almanac.proofs.write_file.Statement.{statement}
 use Rattle.almanac.proofs.write_file.Tie as tie

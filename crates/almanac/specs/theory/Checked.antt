@@ -12,7 +12,7 @@ use lib.Seq.{take-at}
 use Rattle.refusals.specs.Verdict.{Verdict, answered, refused}
 use Rattle.clock.specs.theory.Table.{few}
 use Rattle.almanac.specs.declared.Counts.{Counts}
-use Rattle.almanac.specs.Content.{Content, content, entryCount, suiCount, monthCount, lawful}
+use Rattle.content.specs.Content.{Content, content, entryCount, suiCount, monthCount, lawful}
 use Rattle.almanac.specs.Fields.{Field, times, numbersIn}
 use Rattle.almanac.specs.Layout.{entryFields, suiFields, monthFields, suisAt, monthsAt, countsOf, contentAt, contentOf, fileOf}
 use Rattle.almanac.specs.Answers.{countsIn, checkedFile}

@@ -13,7 +13,7 @@ use Rattle.refusals.specs.Lent.{writtenInto}
 use Rattle.whole.specs.Booleans.{neither}
 use Rattle.clock.specs.theory.Table.{few}
 use Rattle.almanac.specs.declared.Counts.{Counts}
-use Rattle.almanac.specs.Content.{Content, lawful, leap-words, sui-words, month-words}
+use Rattle.content.specs.Content.{Content, lawful, leap-words, sui-words, month-words}
 use Rattle.almanac.specs.Layout.{endAt, countsOf, contentAt, fileOf}
 use Rattle.almanac.specs.Answers.{countsIn, checkedFile, contentRead, readFile}
 use Rattle.almanac.specs.Theorems as theorems

@@ -25,7 +25,7 @@ use Rattle.clock.specs.Leap.{leapLawful, wholePairs, goodEntry, entries, day, o
 use Rattle.clock.specs.theory.Table.{few, day-small, offset-small, offset-is, offset-first}
 use Rattle.months.specs.Handles.{numberAt, leapMark, handle, handleAt}
 use Rattle.months.specs.theory.Numbering.{number-small, mark-small}
-use Rattle.almanac.specs.Content.{Content, entryCount, suiCount, monthCount, yearAt, countAt, monthAt, monthsBefore, followsYear, goodSui, leapsBefore, goodHandle, goodStart, goodDays, goodMonth, goodMonths, goodSuiMonths, wholeSuis, lawful}
+use Rattle.content.specs.Content.{Content, entryCount, suiCount, monthCount, yearAt, countAt, monthAt, monthsBefore, followsYear, goodSui, leapsBefore, goodHandle, goodStart, goodDays, goodMonth, goodMonths, goodSuiMonths, wholeSuis, lawful}
 use Rattle.almanac.specs.Fields.{Field, one-byte, unsigned, signed, times}
 use Rattle.almanac.specs.Layout.{entryFields, suiFields, monthFields}
 use Rattle.almanac.specs.theory.FieldLaws.{Counted, FitsField, Fit}

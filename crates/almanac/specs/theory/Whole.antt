@@ -14,7 +14,7 @@ use Rattle.refusals.specs.Verdict.{Verdict, answered, refuseWhen, test-answered
 use Rattle.words.specs.Words.{pattern4, unsigned4, bytes4}
 use Rattle.words.specs.Theorems.{Bytes, unsigned-written-back, unsigned-read-back}
 use Rattle.almanac.specs.declared.Counts.{Counts}
-use Rattle.almanac.specs.Content.{Content, content, entryCount, suiCount, monthCount}
+use Rattle.content.specs.Content.{Content, content, entryCount, suiCount, monthCount}
 use Rattle.almanac.specs.Fields.{Field, times, widths, numbersIn, bytesFor}
 use Rattle.almanac.specs.Answers.{countsIn}
 use Rattle.almanac.specs.Layout.{entryFields, suiFields, monthFields, bytesOf, suisAt, monthsAt, endAt, countsOf, contentAt, contentOf}

@@ -12,7 +12,7 @@ use Rattle.whole.specs.Lists.{placed, placed-both}
 use Rattle.refusals.specs.Verdict.{Verdict, answered, refused, _then_}
 use Rattle.refusals.specs.Lent.{writtenInto}
 use Rattle.words.specs.Words.{bytes4}
-use Rattle.almanac.specs.Content.{Content, entryCount, suiCount, monthCount, lawful}
+use Rattle.content.specs.Content.{Content, entryCount, suiCount, monthCount, lawful}
 use Rattle.almanac.specs.Fields.{times, bytesFor}
 use Rattle.almanac.specs.Layout.{entryFields, suiFields, monthFields, suisAt, monthsAt, endAt, bytesOf}
 use Rattle.almanac.specs.Answers.{bytesInto, bytesToWrite, all-bytes, bytesCounted, writtenFile}

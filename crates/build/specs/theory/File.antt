@@ -16,7 +16,7 @@ use Rattle.inputs.specs.Known.{Known}
 use Rattle.months.specs.declared.Sui.{Sui}
 use Rattle.sui.specs.Sui.{suiOfYear}
 use Rattle.suis.specs.theory.Next.{next-year}
-use Rattle.almanac.specs.Content.{Content, content, lawful}
+use Rattle.content.specs.Content.{Content, content, lawful}
 use Rattle.almanac.specs.Answers.{bytesInto, bytesCounted, all-bytes}
 use Rattle.build.specs.Build.{suisFrom, wordsOf, monthsIn as monthsOf, suiWords, monthWords, contentFor, contentBuilt, bytesOfYears, bytesBy, contentBy, suisBy}
 use Rattle.build.specs.theory.Put.{monthsIn}

@@ -21,8 +21,8 @@ use Rattle.months.specs.declared.Month.{Month}
 use Rattle.months.specs.declared.Sui.{Sui}
 use Rattle.months.specs.Answers.{noSui}
 use Rattle.months.specs.theory.Suis.{month}
-use Rattle.almanac.specs.Content.{yearAt, countAt, monthAt, monthsBefore, followsYear, goodSui, leapsBefore, goodHandle, goodStart, goodDays, goodMonth, goodMonths, goodSuiMonths, wholeSuis, lawful}
-use Rattle.almanac.specs.theory.Judged.{first-start}
+use Rattle.content.specs.Content.{yearAt, countAt, monthAt, monthsBefore, followsYear, goodSui, leapsBefore, goodHandle, goodStart, goodDays, goodMonth, goodMonths, goodSuiMonths, wholeSuis, lawful}
+use Rattle.content.specs.theory.Judged.{first-start}
 use Rattle.build.specs.Build.{suiWords, monthWords, contentFor}
 use Rattle.build.specs.theory.Words.{length-sui-words}
 use Rattle.build.specs.theory.Years.{SuisOf}

@@ -15,8 +15,8 @@ use Rattle.months.specs.declared.Sui.{Sui}
 use Rattle.months.specs.Handles.{ordinal, numberAt, leapMark, handle, handleAt}
 use Rattle.months.specs.theory.Numbering.{before-leap, from-leap, at-leap, not-at-leap, mark-small}
 use Rattle.months.specs.theory.Suis.{month}
-use Rattle.almanac.specs.Content.{monthAt, leapsBefore, goodHandle}
-use Rattle.almanac.specs.theory.Judged.{ordinary-handle, leap-decides}
+use Rattle.content.specs.Content.{monthAt, leapsBefore, goodHandle}
+use Rattle.content.specs.theory.Judged.{ordinary-handle, leap-decides}
 use Rattle.build.specs.theory.Kept.{KeptSui}
 
 -- the handle of a leap month is odd

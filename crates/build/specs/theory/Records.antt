@@ -20,7 +20,7 @@ use Rattle.months.specs.Months.{numbered, suiOf}
 use Rattle.months.specs.Answers.{noSui}
 use Rattle.months.specs.theory.Suis.{month, sui-is}
 use Rattle.sui.specs.Sui.{suiDays, suiOfYear}
-use Rattle.almanac.specs.Content.{yearAt, countAt, monthAt, monthsBefore}
+use Rattle.content.specs.Content.{yearAt, countAt, monthAt, monthsBefore}
 use Rattle.build.specs.Build.{monthsIn, wordsOf, suiWords, monthWords}
 use Rattle.build.specs.theory.Words.{length-words-of}
 use Rattle.build.specs.theory.Years.{SuisOf}

@@ -8,7 +8,7 @@ use lib.IntN.{ℤ, pos, negsuc, _+ℤ_, _-ℤ_}
 use Rattle.whole.specs.Solver.{⇑, ⇓, ring}
 use Rattle.whole.specs.Tests.{inRange, in-range-says, says-in-range, exactly-says}
 use Rattle.dates.specs.Answers.{hasDate}
-use Rattle.almanac.specs.Content.{Content, monthCount, monthAt, goodStart}
+use Rattle.content.specs.Content.{Content, monthCount, monthAt, goodStart}
 use Rattle.almanac.specs.theory.Rules.{Rules, placed, days-parts}
 
 pub record Dated (months : List ℤ) (n : ℕ) : Type 0 where

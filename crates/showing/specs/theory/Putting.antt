@@ -11,7 +11,7 @@ use lib.ListN.{length, drop}
 use Rattle.whole.specs.Lists.{placed, placed-none, placed-both}
 use Rattle.refusals.specs.Verdict.{Verdict, answered, refused}
 use Rattle.refusals.specs.Lent.{writtenInto}
-use Rattle.almanac.specs.Content.{monthAt}
+use Rattle.content.specs.Content.{monthAt}
 use Rattle.showing.specs.Shown.{header, line, lines, text}
 use Rattle.showing.specs.Answers.{textInto, all-bytes, counted}
 use Rattle.showing.specs.theory.Widths.{line-length, lines-length, text-length}

@@ -12,7 +12,7 @@ use Rattle.refusals.specs.Verdict.{Verdict, answered, refused, refuseWhen, answ
 use Rattle.refusals.specs.Lent.{writtenInto}
 use Rattle.clock.specs.theory.Table.{few}
 use Rattle.almanac.specs.declared.Counts.{Counts}
-use Rattle.almanac.specs.Content.{Content, monthCount, month-words}
+use Rattle.content.specs.Content.{Content, monthCount, month-words}
 use Rattle.almanac.specs.Layout.{fileOf}
 use Rattle.almanac.specs.Answers.{countsIn, tooShort, contentRead, readFile}
 use Rattle.almanac.specs.Theorems.{read-is-lawful}

@@ -7,7 +7,7 @@ use native.Mathlib.Omega.{arith}
 use lib.IntN.{ℤ}
 use lib.ListN.{length, length-append}
 use Rattle.months.specs.declared.Month.{Month}
-use Rattle.almanac.specs.Content.{monthAt}
+use Rattle.content.specs.Content.{monthAt}
 use Rattle.showing.specs.Shown.{leapWord, isLeap, header, line, lines, text}
 
 -- the word, letter by letter

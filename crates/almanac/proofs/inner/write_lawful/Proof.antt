@@ -4,7 +4,7 @@ use Prim.Native.Nat.{_+_, _*_}
 use native.Mathlib.Omega.{arith}
 use borrow.Author.Needs.{needs}
 use Rattle.refusals.specs.Verdict.{answered}
-use Rattle.almanac.specs.Content.{Content, content, entryCount, suiCount, monthCount}
+use Rattle.content.specs.Content.{Content, content, entryCount, suiCount, monthCount}
 use Rattle.almanac.specs.Layout.{endAt}
 use Rattle.almanac.specs.theory.Rules.{lawful-fits}
 use Rattle.almanac.specs.theory.Writer.{no-room, all-written}

@@ -1,7 +1,7 @@
 -- `almanac::writing::put_content` meets its contract. Assumes nothing.
 use native.Mathlib.Omega.{arith}
 use borrow.Author.Needs.{needs}
-use Rattle.almanac.specs.Content.{content}
+use Rattle.content.specs.Content.{content}
 use Rattle.almanac.specs.theory.Writer.{content-placed}
 use Rattle.almanac.proofs.writing.put_content.Statement.{statement}
 use Rattle.almanac.proofs.writing.put_content.Tie as tie

@@ -1,0 +1,3 @@
+// What an almanac file holds, and which contents are lawful.
+pub mod inner;
+mod suimonths;
