@@ -32,7 +32,8 @@ static inline int64_t signed4(const uint8_t *in) {
 }
 
 /* The file of suis from a year on: how many bytes, or minus 12. */
-static int64_t written(const int64_t *leap, size_t n, int64_t first, size_t suis, const uint8_t *counts, const month *months, size_t all, uint8_t *file, size_t room) {
+static int64_t written(const int64_t *leap, size_t n, int64_t first, size_t suis, const uint8_t *counts, const month *months, size_t all, uint8_t *file,
+                       size_t room) {
     size_t entries = n / 2, size = 12 + 8 * entries + 5 * suis + 9 * all;
     if (room < size) return -12;
     put4(file, (int64_t)entries);
@@ -214,7 +215,8 @@ static int64_t compared(inputs *in, int64_t first, int64_t count, size_t room) {
         bool same = answer == proved;
         for (size_t i = 0; i < sizeof built[k]; i++) same &= built[k][i] == built[0][i];
         if (!same) {
-            printf("%ld suis from %ld in %lu bytes: proved %ld, %s %ld, or the bytes differ\n", count, first, room, proved, k == 2 ? "sharing C" : "plain C", answer);
+            printf("%ld suis from %ld in %lu bytes: proved %ld, %s %ld, or the bytes differ\n", count, first, room, proved, k == 2 ? "sharing C" : "plain C",
+                   answer);
             return 1;
         }
     }
@@ -232,8 +234,8 @@ static int compare_builds(inputs *in) {
         }
     int64_t size = compared(in, BUILD_FIRST, BUILD_COUNT, MOST_BYTES);
     if (size < 2) return 1;
-    printf("builds of 1, 2 and %d suis from 1880 to 2080 on: %lu answered, refused by 8 %lu, by 9 to 11 %lu; all three agree\n", BUILD_COUNT, answered, refused[8],
-           refused[9] + refused[10] + refused[11]);
+    printf("builds of 1, 2 and %d suis from 1880 to 2080 on: %lu answered, refused by 8 %lu, by 9 to 11 %lu; all three agree\n", BUILD_COUNT, answered,
+           refused[8], refused[9] + refused[10] + refused[11]);
     static const int64_t first_count[][2] = {{1900, 0}, {1900, -1}, {1900, 129}, {1699, 1}, {2501, 1}, {1699, 0}};
     for (size_t i = 0; i < sizeof first_count / sizeof *first_count; i++)
         if (compared(in, first_count[i][0], first_count[i][1], MOST_BYTES) != -8) return 1;
@@ -262,7 +264,8 @@ static int race_builds(inputs *in) {
         for (int k = 0; k < 6; k++) {
             int64_t count = k < 3 ? BUILD_COUNT : 0;
             double t = now();
-            int64_t answer = k % 3 ? plain_build(in, k % 3 == 2, BUILD_FIRST, count, built[k % 3], MOST_BYTES) : proved_build(in, BUILD_FIRST, count, built[0], MOST_BYTES);
+            int64_t answer = k % 3 ? plain_build(in, k % 3 == 2, BUILD_FIRST, count, built[k % 3], MOST_BYTES)
+                                   : proved_build(in, BUILD_FIRST, count, built[0], MOST_BYTES);
             t = now() - t;
             if ((k < 3) != (answer > 0)) return 1;
             if (t < best[k]) best[k] = t;
@@ -271,8 +274,8 @@ static int race_builds(inputs *in) {
     for (int part = 0; part < 3; part++) {
         double t[3];
         for (int k = 0; k < 3; k++) t[k] = part == 2 ? best[k] - best[3 + k] : best[3 * part + k];
-        printf("%s: proved %.1f us, plain C %.1f, sharing C %.1f; proved/plain %.3f, proved/sharing %.3f\n", what[part], t[0] * 1e6, t[1] * 1e6, t[2] * 1e6, t[0] / t[1],
-               t[0] / t[2]);
+        printf("%s: proved %.1f us, plain C %.1f, sharing C %.1f; proved/plain %.3f, proved/sharing %.3f\n", what[part], t[0] * 1e6, t[1] * 1e6, t[2] * 1e6,
+               t[0] / t[1], t[0] / t[2]);
     }
     return 0;
 }
