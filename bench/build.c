@@ -192,6 +192,14 @@ __attribute__((noinline)) static int64_t plain_check(const uint8_t *file, size_t
     return at == months ? (int64_t)months : -13;
 }
 
+/* Processor time, not time by the clock: a plain build takes longer than a shared core is left alone. */
+#define CLOCK_PROCESS_CPUTIME_ID 2
+static double spent(void) {
+    struct timespec t;
+    clock_gettime(CLOCK_PROCESS_CPUTIME_ID, &t);
+    return t.tv_sec + t.tv_nsec * 1e-9;
+}
+
 /* ---- */
 static uint8_t built[3][MOST_BYTES + 60], spoilt[MOST_BYTES + 60], expected[MOST_BYTES + 60];
 
@@ -263,10 +271,10 @@ static int race_builds(inputs *in) {
     for (int r = 0; r < ROUNDS; r++)
         for (int k = 0; k < 6; k++) {
             int64_t count = k < 3 ? BUILD_COUNT : 0;
-            double t = now();
+            double t = spent();
             int64_t answer = k % 3 ? plain_build(in, k % 3 == 2, BUILD_FIRST, count, built[k % 3], MOST_BYTES)
                                    : proved_build(in, BUILD_FIRST, count, built[0], MOST_BYTES);
-            t = now() - t;
+            t = spent() - t;
             if ((k < 3) != (answer > 0)) return 1;
             if (t < best[k]) best[k] = t;
         }
@@ -354,9 +362,9 @@ static int race_checks(size_t size) {
     double best[2] = {1e9, 1e9};
     for (int r = 0; r < 20 * ROUNDS; r++)
         for (int k = 0; k < 2; k++) {
-            double t = now();
+            double t = spent();
             int64_t answer = k ? plain_check(built[0], size) : check_bytes(built[0], size);
-            t = now() - t;
+            t = spent() - t;
             if (answer <= 0) return 1;
             if (t < best[k]) best[k] = t;
         }
