@@ -48,6 +48,25 @@ typedef struct { int64_t handle, first, length; } month;
 month plain_months[13];
 int64_t plain_zhongqi[13];
 
+/* The months of a sui, by the days of its new moons and of its zhongqi: how many, or minus the number of the refusal. */
+static int64_t numbered(int64_t year, int64_t months, const int64_t *days, const int64_t *zhongqi, month *out) {
+    if (months != 12 && months != 13) return -9;
+    for (int64_t i = 0; i < months; i++)
+        if (days[i + 1] - days[i] < 29 || 30 < days[i + 1] - days[i]) return -10;
+    int64_t without = months;
+    for (int64_t i = months - 1; months == 13 && i >= 0; i--) {
+        bool has = 0;
+        for (int k = 0; k < 13; k++) has |= days[i] <= zhongqi[k] && zhongqi[k] < days[i + 1];
+        if (!has) without = i;
+    }
+    if (months == 13 && without == 13) return -11;
+    for (int64_t i = 0; i < months; i++) {
+        int64_t number = (i + (i < without ? 10 : 9)) % 12 + 1;
+        out[i] = (month){32 * year + 2 * number + (i == without), days[i], days[i + 1] - days[i]};
+    }
+    return months;
+}
+
 /* The plain sui: acceptance in a pass for each rule, every mark by halving the whole span; the first mark to look for is read off the value at the first of
    January, and at a solstice. One is timed; the other counts. */
 #define PLAIN(NAME, EVALUATION, MARK)                                                                                                         \
@@ -69,20 +88,26 @@ int64_t plain_zhongqi[13];
         bool same_day = index + 4 <= highest && day_of(leap, n, NAME##_mark(moon, index + 4)) <= day_of(leap, n, solstice);                   \
         return same_day ? index + 4 : index;                                                                                                  \
     }                                                                                                                                         \
-    __attribute__((noinline)) static int64_t NAME##_sui(const int64_t *leap, size_t n, const series *sun, const series *moon, int64_t year) { \
+    /* 0, or the number of the refusal; and the first and the last index that each body reaches. */                                           \
+    static int NAME##_judged(const int64_t *leap, size_t n, const series *sun, const series *moon, int64_t *lowest, int64_t *highest) {       \
         const series *both[2] = {sun, moon};                                                                                                  \
-        int64_t lowest[2], highest[2], days[14], seconds[13];                                                                                 \
         int refusal = leap_refused(leap, n);                                                                                                  \
-        if (refusal) return -refusal;                                                                                                         \
+        if (refusal) return refusal;                                                                                                          \
         for (int b = 0; b < 2; b++) {                                                                                                         \
             refusal = plain_accept(both[b]->moon, both[b]->start, both[b]->coefs, both[b]->count);                                            \
-            if (refusal) return -refusal;                                                                                                     \
+            if (refusal) return refusal;                                                                                                      \
         }                                                                                                                                     \
         for (int b = 0; b < 2; b++) {                                                                                                         \
             lowest[b] = NAME##_index(both[b], both[b]->start);                                                                                \
             highest[b] = NAME##_index(both[b], last_second(both[b]->moon, both[b]->start, both[b]->count));                                   \
-            if (lowest[b] < highest[b] && !holds(leap, NAME##_mark(both[b], lowest[b] + 1))) return -7;                                       \
+            if (lowest[b] < highest[b] && !holds(leap, NAME##_mark(both[b], lowest[b] + 1))) return 7;                                        \
         }                                                                                                                                     \
+        return 0;                                                                                                                             \
+    }                                                                                                                                         \
+    __attribute__((noinline)) static int64_t NAME##_sui(const int64_t *leap, size_t n, const series *sun, const series *moon, int64_t year) { \
+        int64_t lowest[2], highest[2], days[14], seconds[13];                                                                                 \
+        int refusal = NAME##_judged(leap, n, sun, moon, lowest, highest);                                                                     \
+        if (refusal) return -refusal;                                                                                                         \
         if (year < 1700 || 2500 < year) return -8;                                                                                            \
         int64_t first = 24 * floor_div(NAME##_index(sun, 86400 * january(year - 1)) - 18, 24) + 42;                                           \
         if (first <= lowest[0] || highest[0] < first + 24) return -8;                                                                         \
@@ -97,20 +122,7 @@ int64_t plain_zhongqi[13];
         int64_t months = (to - from) / 4;                                                                                                     \
         if (months != 12 && months != 13) return -9;                                                                                          \
         for (int64_t i = 0; i <= months; i++) days[i] = day_of(leap, n, NAME##_mark(moon, from + 4 * i));                                     \
-        for (int64_t i = 0; i < months; i++)                                                                                                  \
-            if (days[i + 1] - days[i] < 29 || 30 < days[i + 1] - days[i]) return -10;                                                         \
-        int64_t without = months;                                                                                                             \
-        for (int64_t i = months - 1; months == 13 && i >= 0; i--) {                                                                           \
-            bool has = 0;                                                                                                                     \
-            for (int k = 0; k < 13; k++) has |= days[i] <= plain_zhongqi[k] && plain_zhongqi[k] < days[i + 1];                                \
-            if (!has) without = i;                                                                                                            \
-        }                                                                                                                                     \
-        if (months == 13 && without == 13) return -11;                                                                                        \
-        for (int64_t i = 0; i < months; i++) {                                                                                                \
-            int64_t number = (i + (i < without ? 10 : 9)) % 12 + 1;                                                                           \
-            plain_months[i] = (month){32 * year + 2 * number + (i == without), days[i], days[i + 1] - days[i]};                               \
-        }                                                                                                                                     \
-        return months;                                                                                                                        \
+        return numbered(year, months, days, plain_zhongqi, plain_months);                                                                     \
     }
 
 PLAIN(halving, NOTHING, NOTHING)
@@ -173,6 +185,7 @@ static bool taken(const char *path, int64_t *words, size_t room, size_t head, si
     return 0;
 }
 
+#ifndef SUI_PARTS /* bench/build.c takes what stands above */
 int main(int arguments, char **argument) {
     if (arguments != 4) {
         printf("arguments: a file of the Sun's series, one of the Moon's, and one of the leap table\n");
@@ -236,3 +249,4 @@ int main(int arguments, char **argument) {
            (best[0] - best[2]) / (best[1] - best[3]));
     return 0;
 }
+#endif
