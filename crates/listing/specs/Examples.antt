@@ -1,4 +1,4 @@
--- The layout of the input on both sides of its bounds, 13 before the other refusals, the line of a mark before the first, and the Sun's lines before the Moon's:
+-- The layout of the input on both sides of its bounds, 13 before the other refusals, the line of a mark with a negative index, and the Sun's lines before the Moon's:
 -- computed facts, checked at once. (The marks of a listing are stepped second by second, and run by programs.) Assumes nothing.
 use mathlib.Core.Bool.{Bool, true, false, not, _&&_}
 use mathlib.Core.List.{List, [], _∷_, _++_}
@@ -46,9 +46,9 @@ sameLines [] (l ∷ ls) = false
 sameLines (k ∷ ks) [] = false
 sameLines (k ∷ ks) (l ∷ ls) = sameNumbers k l && sameLines ks ls
 
--- the mark before the first, at the second of document 01's starred example, and that example's table
-abbrev before : Mark
-before = record { index = negsuc 0; second = negsuc 836106 }
+-- mark -1, at the second of document 01's starred example, and that example's table
+abbrev minusOne : Mark
+minusOne = record { index = negsuc 0; second = negsuc 836106 }
 
 abbrev table : List ℤ
 table = negsuc 364 ∷ pos 32 ∷ []
@@ -78,10 +78,10 @@ examples =
     ∷ isRefused (listedBytes (replicate 40 0)) 1
     ∷ isRefused (listedBytes []) 13
     -- S 23 and M 3: mark -1 is the last of a circle
-    ∷ sameNumbers (lineOf Sun table before) (lineThen 83 23)
-    ∷ sameNumbers (lineOf Moon table before) (lineThen 77 3)
+    ∷ sameNumbers (lineOf Sun table minusOne) (lineThen 83 23)
+    ∷ sameNumbers (lineOf Moon table minusOne) (lineThen 77 3)
     -- all of the Sun's lines, then the Moon's
-    ∷ sameLines (linesBy table (before ∷ before ∷ []) (before ∷ [])) (lineThen 83 23 ∷ lineThen 83 23 ∷ lineThen 77 3 ∷ [])
+    ∷ sameLines (linesBy table (minusOne ∷ minusOne ∷ []) (minusOne ∷ [])) (lineThen 83 23 ∷ lineThen 83 23 ∷ lineThen 77 3 ∷ [])
     ∷ []
 
 pub examples-hold : T (all examples)
