@@ -27,6 +27,10 @@ use Rattle.months.specs.Limits.{monthsOf}
 use Rattle.months.specs.Answers.{suiAnswer, paperSui}
 use Rattle.sui.specs.Sui.{suiFor}
 use Rattle.sui.specs.Theorems as of-sui
+use Rattle.almanac.specs.declared.WriteAnswer.{WriteAnswer}
+use Rattle.almanac.specs.Answers.{paperWritten, all-bytes}
+use Rattle.build.specs.Build.{bytesBuilt, fileBuilt}
+use Rattle.build.specs.Theorems as of-build
 use Rattle.forms.specs.declared.Series.{Series}
 use Rattle.forms.specs.declared.records.MonthsAnswer.{MonthsAnswer}
 use Rattle.forms.specs.declared.records.MonthsAnswer.the-variants as months-answer
@@ -57,6 +61,13 @@ judge-one-result leap sun moon = of-inputs.judge-one-result (inputsOf leap sun m
 
 pub sui-one-result : (leap : List ℤ) (sun moon : Series) (year : ℤ) (a b : SuiAnswer) → a ≡ suiAnswer (suiFor (inputsOf leap sun moon) utc8 year) → b ≡ suiAnswer (suiFor (inputsOf leap sun moon) utc8 year) → a ≡ b
 sui-one-result leap sun moon year = of-sui.sui-one-result (inputsOf leap sun moon) utc8 year
+
+module _ (leap : List ℤ) (sun moon : Series) (first count : ℤ) where
+  pub build-one-result : (room : ℕ) (a b : WriteAnswer) → paperWritten a ≡ fileBuilt (inputsOf leap sun moon) utc8 first count room → paperWritten b ≡ fileBuilt (inputsOf leap sun moon) utc8 first count room → a ≡ b
+  build-one-result = of-build.build-one-result (inputsOf leap sun moon) utc8 first count
+
+  pub build-one-content : (file a b : List ℕ) → a ≡ writtenInto (bytesBuilt (inputsOf leap sun moon) utc8 first count (length file)) all-bytes file → b ≡ writtenInto (bytesBuilt (inputsOf leap sun moon) utc8 first count (length file)) all-bytes file → a ≡ b
+  build-one-content = of-build.build-one-content (inputsOf leap sun moon) utc8 first count
 
 -- ---- months in a lent list: the paper tells answers apart
 pub months-apart : OneToOne paperMonths

@@ -1,5 +1,6 @@
 // The named form of a series: its start second and its lent coefficients travel as one thing. The functions over it take it apart and call the entry point over start and
 // coefficients; each is proved by a walk of its code, and promises what that entry point does.
+use almanac::WriteAnswer;
 use marks::CountAnswer;
 use marks::ListAnswer;
 use months::Month;
@@ -19,6 +20,8 @@ ghost use Rattle.months.specs.Answers.{suiAnswer};
 ghost use Rattle.clock.specs.Clock.{utc8};
 ghost use Rattle.inputs.specs.Inputs.{inputsJudged};
 ghost use Rattle.sui.specs.Sui.{suiFor};
+ghost use Rattle.almanac.specs.Answers.{paperWritten, all-bytes};
+ghost use Rattle.build.specs.Build.{bytesBuilt, fileBuilt};
 ghost use Rattle.forms.specs.Forms.{seriesOf, inputsOf, paperMonths, recordsInto, all-records, recordsCounted};
 
 pub mod records;
@@ -79,7 +82,7 @@ pub fn sui<'l, 'a, 'b>(leap: &'l [i64], sun: Series<'a>, moon: Series<'b>, year:
     sui::sui(leap, sun.start, sun.coefs, moon.start, moon.coefs, year)
 }
 
-// The same in a lent list of records: both named forms at once, and the shape of every build over two series.
+// The same in a lent list of records: both named forms at once.
 pub fn sui_into<'l, 'a, 'b>(
     leap: &'l [i64],
     sun: Series<'a>,
@@ -98,5 +101,29 @@ pub fn sui_into<'l, 'a, 'b>(
         moon.coefs,
         year,
         out,
+    )
+}
+
+// The almanac file of `count` suis from year `first` on, by UTC+8 days, in a lent slice. Everything is judged before the first byte is written.
+pub fn build<'l, 'a, 'b>(
+    leap: &'l [i64],
+    sun: Series<'a>,
+    moon: Series<'b>,
+    first: i64,
+    count: i64,
+    file: &mut [u8],
+) -> WriteAnswer
+    ensures { λ r. ⌜ paperWritten r ≡ fileBuilt (inputsOf (now (leap .entry)) (sun .entry) (moon .entry)) utc8 first count (length (now (file .entry))) ⌝ }
+    ensures { λ r. ⌜ now (file .exit) ≡ writtenInto (bytesBuilt (inputsOf (now (leap .entry)) (sun .entry) (moon .entry)) utc8 first count (length (now (file .entry)))) all-bytes (now (file .entry)) ⌝ }
+{
+    build::build(
+        leap,
+        sun.start,
+        sun.coefs,
+        moon.start,
+        moon.coefs,
+        first,
+        count,
+        file,
     )
 }

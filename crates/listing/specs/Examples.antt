@@ -1,5 +1,5 @@
--- The layout of the input on both sides of its bounds, and 13 before the other refusals: computed facts, checked at once. (What a listing holds beyond its
--- refusals is stepped second by second, and run by programs.) Assumes nothing.
+-- The layout of the input on both sides of its bounds, 13 before the other refusals, the line of a mark with a negative index, and the Sun's lines before the Moon's:
+-- computed facts, checked at once. (The marks of a listing are stepped second by second, and run by programs.) Assumes nothing.
 use mathlib.Core.Bool.{Bool, true, false, not, _&&_}
 use mathlib.Core.List.{List, [], _∷_, _++_}
 use Prim.Native.Nat.{ℕ, _*_}
@@ -8,15 +8,21 @@ use lib.IntN.{ℤ, pos, negsuc}
 use lib.ListN.{replicate}
 use Rattle.refusals.specs.Verdict.{Verdict, answered, refused}
 use Rattle.refusals.specs.Evaluated.{isAccepted, isRefused}
-use Rattle.whole.specs.Evaluated.{all}
-use Rattle.clock.specs.Leap.{leapLawful, wholePairs, firstEntry, nextEntry, goodEntry}
-use Rattle.clock.specs.Answers.{leapJudged}
-use Rattle.whole.specs.Below.{every}
+use Rattle.whole.specs.Evaluated.{all, sameNumbers}
+use Rattle.whole.specs.Floor.{floorDiv, floorMod}
+use Rattle.whole.specs.Below.{every, lastBelow}
 use Rattle.words.specs.Words.{words}
+use Rattle.text.specs.Text.{line, date, time}
+use Rattle.dates.specs.Calendar.{leapYear, leapYearsTo, newYear, monthLengths, yearOrNext, yearOf, monthsOver, dateInYear, dateFor}
+use Rattle.clock.specs.Leap.{leapLawful, wholePairs, firstEntry, nextEntry, goodEntry, holdsFrom, holds, entryUsed}
+use Rattle.clock.specs.Clock.{tai, localMilli, reading, milliIn, dayOfMilli, shownOfMilli, shownIn}
+use Rattle.clock.specs.Answers.{leapJudged}
+use Rattle.series.specs.declared.Body.the-variants.{Sun, Moon}
+use Rattle.marks.specs.Marks.{Mark}
 use Rattle.inputs.specs.Inputs.{inputsJudged}
 use Rattle.layout.specs.declared.inner.Places.{Places}
 use Rattle.layout.specs.Layout.{sectionEnd, places}
-use Rattle.listing.specs.Listing.{listed, listedWords, listedBytes}
+use Rattle.listing.specs.Listing.{lineOf, linesBy, listed, listedWords, listedBytes}
 
 abbrev isPlaces : ℕ → ℕ → Verdict Places → Bool
 isPlaces sun moon (answered p) = eqb (p .sun) sun && eqb (p .moon) moon
@@ -33,8 +39,26 @@ leap = pos 1 ∷ pos 0 ∷ pos 32 ∷ []
 abbrev badLeap : List ℤ
 badLeap = pos 1 ∷ pos 0 ∷ pos 1001 ∷ []
 
+-- two lists of lines
+abbrev sameLines : List (List ℕ) → List (List ℕ) → Bool
+sameLines [] [] = true
+sameLines [] (l ∷ ls) = false
+sameLines (k ∷ ks) [] = false
+sameLines (k ∷ ks) (l ∷ ls) = sameNumbers k l && sameLines ks ls
+
+-- mark -1, at the second of document 01's starred example, and that example's table
+abbrev minusOne : Mark
+minusOne = record { index = negsuc 0; second = negsuc 836106 }
+
+abbrev table : List ℤ
+table = negsuc 364 ∷ pos 32 ∷ []
+
+-- a line of that second, by its letter and its index
+abbrev lineThen : ℕ → ℕ → List ℕ
+lineThen letter index = line letter index (date 1999 12 22) (time 15 43 48 816)
+
 unfoldable pub examples : List Bool
-unfolding sectionEnd places listed listedWords listedBytes words inputsJudged leapJudged leapLawful wholePairs firstEntry nextEntry goodEntry every
+unfolding sectionEnd places lineOf listed listedWords listedBytes words inputsJudged leapJudged leapLawful wholePairs firstEntry nextEntry goodEntry every leapYear leapYearsTo newYear monthLengths yearOrNext yearOf monthsOver dateInYear dateFor floorDiv floorMod holdsFrom holds lastBelow entryUsed tai localMilli reading milliIn dayOfMilli shownOfMilli shownIn
 examples =
     -- where the sections stand; a word less, a word more
     isPlaces 3 19 (places (leap ++ one ++ one))
@@ -53,6 +77,11 @@ examples =
     ∷ isRefused (listedBytes (replicate 41 0)) 13
     ∷ isRefused (listedBytes (replicate 40 0)) 1
     ∷ isRefused (listedBytes []) 13
+    -- S 23 and M 3: mark -1 is the last of a circle
+    ∷ sameNumbers (lineOf Sun table minusOne) (lineThen 83 23)
+    ∷ sameNumbers (lineOf Moon table minusOne) (lineThen 77 3)
+    -- all of the Sun's lines, then the Moon's
+    ∷ sameLines (linesBy table (minusOne ∷ minusOne ∷ []) (minusOne ∷ [])) (lineThen 83 23 ∷ lineThen 83 23 ∷ lineThen 77 3 ∷ [])
     ∷ []
 
 pub examples-hold : T (all examples)

@@ -35,9 +35,13 @@ shownLine body index t =
 unfoldable pub lineOf : Body → List ℤ → Mark → List ℕ
 lineOf body leap m = shownLine body (m .index) (shownIn leap (second m) utc8)
 
--- the lines of inputs: the Sun's marks, then the Moon's
+-- the lines of given marks: the Sun's, then the Moon's
+abbrev pub linesBy : List ℤ → List Mark → List Mark → List (List ℕ)
+linesBy leap suns moons = map (lineOf Sun leap) suns ++ map (lineOf Moon leap) moons
+
+-- the lines of inputs
 abbrev pub linesOf : Inputs → List (List ℕ)
-linesOf i = map (lineOf Sun (i .leap)) (listedMarks (sun i)) ++ map (lineOf Moon (i .leap)) (listedMarks (moon i))
+linesOf i = linesBy (i .leap) (listedMarks (sun i)) (listedMarks (moon i))
 
 unfoldable pub listed : Inputs → Verdict (List (List ℕ))
 listed i = inputsJudged i before answered (linesOf i)
