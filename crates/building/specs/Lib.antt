@@ -1,3 +1,5 @@
 pub mod Building
 pub mod Refused
 pub mod theory
+pub mod OneResult
+pub mod Examples

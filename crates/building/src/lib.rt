@@ -45,13 +45,14 @@ pub fn build_bytes(input: &[u8], file: &mut [u8]) -> WriteAnswer
 pub fn refused_series(input: &[u8]) -> SeriesAnswer
     ensures { λ r. ⌜ r ≡ refusedSeries (now (input .entry)) ⌝ }
 {
-    if 2017080 < input.len() {
+    let bytes = input.len();
+    if 2017080 < bytes {
         return SeriesAnswer::Neither;
     }
-    if input.len() % 8 != 0 {
+    if bytes % 8 != 0 {
         return SeriesAnswer::Neither;
     }
-    let n = input.len() / 8;
+    let n = bytes / 8;
     let mut words = zeros();
     words::inner::read_words(input, n, &mut words);
     refused::in_words(&words[..n])
