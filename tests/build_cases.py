@@ -5,7 +5,9 @@ real series are those of crates/sui_real.
 
 build_cases.py FILE SUN MOON LEAP FIRST COUNT   writes the input for these series (64-bit words: segments, start, coefficients) and leap table (entries, day and
                                                 offset of each) into FILE
+build_cases.py --cut FILE SUN MOON LEAP FIRST COUNT   the same with no more segments than those suis need
 """
+import datetime
 import os
 import struct
 import sys
@@ -118,14 +120,26 @@ CASES = [
 ]
 
 
+def needed(given, half, first, count):
+    """The segments of a series from the middle of November before the first sui to the end of January behind the last one."""
+    start, end = (86400 * (datetime.date(*date) - sui_real.DAY_ZERO).days for date in ((first - 1, 11, 15), (first + count, 2, 1)))
+    segments = -(-(end - start) // (2 * half)) + 1
+    return [segments, *sui_real.cut(given, half, start, segments)]
+
+
+def write_input(name, sun, moon, table, first, count, whole):
+    parts = [sui_real.read(part) for part in (table, sun, moon)]
+    if not whole:
+        parts[1:] = [needed(part, body[1], first, count) for part, body in zip(parts[1:], reference.BODIES)]
+    with open(name, 'wb') as f:
+        f.write(asked(first, count, *parts))
+
+
 def main():
     if len(sys.argv) > 1:
-        name, sun, moon, table, first, count = sys.argv[1:]
-        with open(name, 'wb') as f:
-            f.write(struct.pack('<2q', int(first), int(count)))
-            for part in (table, sun, moon):
-                with open(part, 'rb') as g:
-                    f.write(g.read())
+        whole = sys.argv[1] != '--cut'
+        name, sun, moon, table, first, count = sys.argv[1 if whole else 2:]
+        write_input(name, sun, moon, table, int(first), int(count), whole)
         return
     names, expected = [], b''
     for name, data in CASES:

@@ -1,6 +1,7 @@
 // All of the build program: from a descriptor, which is standard input there, to standard output: the file's bytes, or one line that says R and the number, for
-// 3 to 5 with the segment.
+// 3 to 5 with the segment. For 2 to 5 one line on standard error says whose series it is.
 use almanac::WriteAnswer;
+use building::SeriesAnswer;
 use refusals::Refusal;
 ghost use mathlib.Core.Path.{_≡_};
 ghost use lib.ListN.{length};
@@ -37,12 +38,26 @@ fn print_refusal(r: Refusal) {
     io::write_all(libc::STDOUT_FILENO, b"\n");
 }
 
+// Says on standard error whose series is refused; for other refusals nothing.
+fn print_series(input: &[u8]) {
+    match building::refused_series(input) {
+        SeriesAnswer::Sun => {
+            io::write_all(libc::STDERR_FILENO, b"the Sun's series\n");
+        }
+        SeriesAnswer::Moon => {
+            io::write_all(libc::STDERR_FILENO, b"the Moon's series\n");
+        }
+        SeriesAnswer::Neither => {}
+    }
+}
+
 fn print_built(input: &[u8]) {
     let mut file = file_room();
     let answer = building::build_bytes(input, &mut file);
     match answer {
         WriteAnswer::Refused(r) => {
             print_refusal(r);
+            print_series(input);
         }
         WriteAnswer::Written(n) => {
             io::write_all(libc::STDOUT_FILENO, &file[..n]);

@@ -1,2 +1,6 @@
 pub mod Building
+pub mod Refused
 pub mod theory
+pub mod Theorems
+pub mod OneResult
+pub mod Examples

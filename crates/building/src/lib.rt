@@ -5,8 +5,17 @@ ghost use lib.ListN.{length};
 ghost use Rattle.refusals.specs.Lent.{writtenInto};
 ghost use Rattle.almanac.specs.Answers.{paperWritten, bytesCounted, all-bytes};
 ghost use Rattle.building.specs.Building.{builtFrom};
+ghost use Rattle.building.specs.Refused.{refusedSeries};
 
+mod refused;
 mod sections;
+
+// A series that is refused, or none.
+pub enum SeriesAnswer {
+    Sun,
+    Moon,
+    Neither,
+}
 
 // Room for all the words of the longest input: 64 leap entries, 2,000 segments of the Sun, 16,000 of the Moon.
 fn zeros() -> [i64; 252135]
@@ -30,4 +39,21 @@ pub fn build_bytes(input: &[u8], file: &mut [u8]) -> WriteAnswer
     let mut words = zeros();
     words::inner::read_words(input, n, &mut words);
     sections::build_words(&words[..n], file)
+}
+
+// Which series is to blame where the build refuses by 2 to 5; for every other input neither.
+pub fn refused_series(input: &[u8]) -> SeriesAnswer
+    ensures { λ r. ⌜ r ≡ refusedSeries (now (input .entry)) ⌝ }
+{
+    let bytes = input.len();
+    if 2017080 < bytes {
+        return SeriesAnswer::Neither;
+    }
+    if bytes % 8 != 0 {
+        return SeriesAnswer::Neither;
+    }
+    let n = bytes / 8;
+    let mut words = zeros();
+    words::inner::read_words(input, n, &mut words);
+    refused::in_words(&words[..n])
 }

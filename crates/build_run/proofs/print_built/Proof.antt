@@ -16,6 +16,7 @@ use Rattle.build_run.proofs.print_built.Reads as reads
 use Rattle.build_run.proofs.print_built.Lts as lts
 use Rattle.build_run.proofs.file_room.Reads as file-room-reads
 use Rattle.build_run.proofs.print_refusal.Reads as print-refusal-reads
+use Rattle.build_run.proofs.print_series.Reads as print-series-reads
 use Rattle.building.proofs.build_bytes.Reads as build-bytes-reads
 use Rattle.io.proofs.write_all.Reads as write-all-reads
 
@@ -38,6 +39,9 @@ enum-known-answer c = search needs
 
 print-refusal-requires : tie.Need-print-refusal-requires
 print-refusal-requires c κs = search needs
+
+print-series-requires : tie.Need-print-series-requires
+print-series-requires c κs = search needs
 
 enum-known-answer-2 : tie.Need-enum-known-answer-2
 enum-known-answer-2 c = search needs
@@ -72,6 +76,7 @@ print-built-spec =
     build-bytes-requires
     enum-known-answer
     print-refusal-requires
+    print-series-requires
     enum-known-answer-2
     array-share-prefix-file
     slice-aggregate-write-all

@@ -1,0 +1,80 @@
+-- The input of the build program on both sides of its bounds, and whose series is refused: computed facts, checked at once. (What is built from accepted series is
+-- stepped second by second, and run by programs.) Assumes nothing.
+use mathlib.Core.Bool.{Bool, true, false}
+use mathlib.Core.List.{List, [], _∷_, _++_}
+use lib.Dec.{T}
+use lib.IntN.{ℤ, pos, negsuc}
+use lib.ListN.{replicate}
+use Rattle.whole.specs.Floor.{floorDiv}
+use Rattle.whole.specs.Below.{every}
+use Rattle.whole.specs.Evaluated.{all}
+use Rattle.refusals.specs.Search.{firstBad}
+use Rattle.refusals.specs.Evaluated.{isRefused, isRefusedAt}
+use Rattle.words.specs.Words.{words}
+use Rattle.clock.specs.Leap.{leapLawful, wholePairs, firstEntry, nextEntry, goodEntry}
+use Rattle.clock.specs.Answers.{leapJudged}
+use Rattle.chebyshev.specs.Polynomials.{P}
+use Rattle.chebyshev.specs.Segment.{sum, value, slope}
+use Rattle.series.specs.Acceptance.{seriesJudged}
+use Rattle.inputs.specs.Inputs.{inputsJudged}
+use Rattle.layout.specs.Layout.{sectionEnd, places}
+use Rattle.build.specs.Build.{bytesBuilt}
+use Rattle.building.specs.declared.SeriesAnswer.{SeriesAnswer}
+use Rattle.building.specs.declared.SeriesAnswer.the-variants.{Sun, Moon, Neither}
+use Rattle.building.specs.Building.{builtFromRest, builtFromWords, builtFrom}
+use Rattle.building.specs.Refused.{refusedOf, refusedInRest, refusedInWords, refusedSeries}
+
+abbrev isSun : SeriesAnswer → Bool
+isSun Sun = true
+isSun Moon = false
+isSun Neither = false
+
+abbrev isMoon : SeriesAnswer → Bool
+isMoon Sun = false
+isMoon Moon = true
+isMoon Neither = false
+
+abbrev isNeither : SeriesAnswer → Bool
+isNeither Sun = false
+isNeither Moon = false
+isNeither Neither = true
+
+-- a series of one segment with c1 alone
+abbrev one : ℤ → List ℤ
+one c1 = pos 1 ∷ pos 0 ∷ pos 0 ∷ c1 ∷ replicate 12 (pos 0)
+
+-- first Y, count, a leap table of one entry, Sun and Moon
+abbrev asked : ℤ → ℤ → ℤ → List ℤ
+asked offset sunRise moonRise = pos 2000 ∷ pos 1 ∷ pos 1 ∷ pos 0 ∷ offset ∷ (one sunRise ++ one moonRise)
+
+unfoldable pub examples : List Bool
+unfolding builtFrom builtFromWords builtFromRest bytesBuilt refusedOf refusedInRest refusedInWords refusedSeries words sectionEnd places inputsJudged leapJudged leapLawful wholePairs firstEntry nextEntry goodEntry every seriesJudged firstBad value slope sum P floorDiv
+examples =
+    -- too few words: none, one, and two with nothing behind them; seven keep the layout, and their leap table of no entry is 1
+    isRefused (builtFromWords [] 200) 13
+    ∷ isRefused (builtFromWords (pos 2000 ∷ []) 200) 13
+    ∷ isRefused (builtFromWords (pos 2000 ∷ pos 1 ∷ []) 200) 13
+    ∷ isRefused (builtFromWords (pos 2000 ∷ pos 1 ∷ replicate 4 (pos 0)) 200) 13
+    ∷ isRefused (builtFromWords (pos 2000 ∷ pos 1 ∷ replicate 5 (pos 0)) 200) 1
+    ∷ isRefused (builtFromWords (pos 2000 ∷ pos 1 ∷ replicate 6 (pos 0)) 200) 13
+    -- a part of a word, before and behind; a negative count of a section
+    ∷ isRefused (builtFrom (replicate 55 0) 200) 13
+    ∷ isRefused (builtFrom (replicate 56 0) 200) 1
+    ∷ isRefused (builtFrom (replicate 57 0) 200) 13
+    ∷ isRefused (builtFromWords (pos 2000 ∷ pos 1 ∷ negsuc 0 ∷ replicate 4 (pos 0)) 200) 13
+    -- the Sun's 4 before the Moon's 3; the Moon's 3 where the Sun is accepted
+    ∷ isRefusedAt (builtFromWords (asked (pos 32) (pos 138239999) (pos 4000000001)) 200) 4 0
+    ∷ isSun (refusedInWords (asked (pos 32) (pos 138239999) (pos 4000000001)))
+    ∷ isRefusedAt (builtFromWords (asked (pos 32) (pos 552960000) (pos 4000000001)) 200) 3 0
+    ∷ isMoon (refusedInWords (asked (pos 32) (pos 552960000) (pos 4000000001)))
+    -- neither where both are accepted, where the leap table is refused, where the layout is broken
+    ∷ isNeither (refusedInWords (asked (pos 32) (pos 552960000) (pos 864000000)))
+    ∷ isNeither (refusedInWords (asked (pos 1001) (pos 138239999) (pos 4000000001)))
+    ∷ isNeither (refusedInWords (asked (pos 32) (pos 138239999) (pos 4000000001) ++ pos 0 ∷ []))
+    ∷ isNeither (refusedInWords (pos 2000 ∷ []))
+    ∷ isNeither (refusedSeries (replicate 57 0))
+    ∷ []
+
+pub examples-hold : T (all examples)
+unfolding examples
+examples-hold = tt
