@@ -18,7 +18,7 @@ use Rattle.chebyshev.specs.Segment.{sum, value, slope}
 use Rattle.series.specs.Acceptance.{seriesJudged}
 use Rattle.inputs.specs.Inputs.{inputsJudged}
 use Rattle.layout.specs.Layout.{sectionEnd, places}
-use Rattle.build.specs.Build.{bytesBuilt}
+use Rattle.build.specs.Build.{builtBy}
 use Rattle.building.specs.declared.SeriesAnswer.{SeriesAnswer}
 use Rattle.building.specs.declared.SeriesAnswer.the-variants.{Sun, Moon, Neither}
 use Rattle.building.specs.Building.{builtFromRest, builtFromWords, builtFrom}
@@ -48,7 +48,7 @@ abbrev asked : ℤ → ℤ → ℤ → List ℤ
 asked offset sunRise moonRise = pos 2000 ∷ pos 1 ∷ pos 1 ∷ pos 0 ∷ offset ∷ (one sunRise ++ one moonRise)
 
 unfoldable pub examples : List Bool
-unfolding builtFrom builtFromWords builtFromRest bytesBuilt refusedOf refusedInRest refusedInWords refusedSeries words sectionEnd places inputsJudged leapJudged leapLawful wholePairs firstEntry nextEntry goodEntry every seriesJudged firstBad value slope sum P floorDiv
+unfolding builtFrom builtFromWords builtFromRest builtBy refusedOf refusedInRest refusedInWords refusedSeries words sectionEnd places inputsJudged leapJudged leapLawful wholePairs firstEntry nextEntry goodEntry every seriesJudged firstBad value slope sum P floorDiv
 examples =
     -- too few words: none, one, and two with nothing behind them; seven keep the layout, and their leap table of no entry is 1
     isRefused (builtFromWords [] 200) 13

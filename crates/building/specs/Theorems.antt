@@ -17,7 +17,7 @@ use Rattle.marks.specs.Listed.{listedMarks}
 use Rattle.inputs.specs.Inputs.{Inputs, sun, moon, anyEarly, inputsJudged}
 use Rattle.layout.specs.declared.inner.Places.{Places}
 use Rattle.layout.specs.Layout.{places, inputsAt}
-use Rattle.build.specs.Build.{bytesBuilt}
+use Rattle.build.specs.Build.{builtBy}
 use Rattle.building.specs.declared.SeriesAnswer.{SeriesAnswer}
 use Rattle.building.specs.declared.SeriesAnswer.the-variants.{Sun, Moon, Neither}
 use Rattle.building.specs.Building.{builtFromRest, builtFromWords, builtFrom}
@@ -88,7 +88,7 @@ pub record RefusedBy (body : Inputs → Series) (bytes : List ℕ) (room : ℕ) 
 module _ (bytes : List ℕ) (room : ℕ) where
   -- what is named of an input is named of its inputs, and a refusal of these is the build's
   named : (x : SeriesAnswer) → (Neither ≡ x → ⊥) → refusedSeries bytes ≡ x → (p : Places) × (places (restOf bytes) ≡ answered p) × (refusedOf (inputsAt (restOf bytes) p) ≡ x) × ((number segment : ℕ) → inputsJudged (inputsAt (restOf bytes) p) ≡ refused number segment → builtFrom bytes room ≡ refused number segment)
-  unfolding refusedSeries refusedInWords refusedInRest builtFrom builtFromWords builtFromRest bytesBuilt
+  unfolding refusedSeries refusedInWords refusedInRest builtFrom builtFromWords builtFromRest builtBy
   named x some e =
       let short = leads-from (refuseWhen (ltb 2017080 (length bytes)) 13) _ x some e in
       let whole = leads-from (refuseWhen (not (eqb (length bytes % 8) 0)) 13) _ x some (short .2) in
