@@ -21,7 +21,7 @@ import sui_real  # noqa: E402
 from list_cases import MOON, SUN, TABLE, leap, segment, series, words  # noqa: E402
 
 crate = os.path.join(here, 'crates', 'build_cases')
-CIRCLE, LONGEST = 12960000000, 2017080
+CIRCLE, LONGEST, SAMPLE = 12960000000, 2017080, 'real_1995_2024.in'
 
 
 def built(data):
@@ -141,16 +141,20 @@ def main():
         name, sun, moon, table, first, count = sys.argv[1 if whole else 2:]
         write_input(name, sun, moon, table, int(first), int(count), whole)
         return
-    names, expected = [], b''
+    # the sample stands in data/ as a link; what is built from it is shown by show_cases
+    with open(os.path.join(here, 'samples', SAMPLE), 'rb') as f:
+        sample = f.read()
+    with open(os.path.join(here, 'crates', 'show_cases', 'data', 'sample'), 'wb') as f:
+        f.write(built(sample))
+    names, expected = ['sample'], b'# sample\n' + built(sample)
     for name, data in CASES:
         with open(os.path.join(crate, 'data', name), 'wb') as f:
             f.write(data)
         names.append(name)
         result = built(data)
-        # what the name says
-        assert not name.startswith('r1') or name.startswith('real') or result.startswith(b'R ' + name[1:].split('_')[0].encode()), (name, result)
-        assert name[0] != 'r' or name.startswith('real') or result.startswith(b'R %s' % name[1:].split('_')[0].encode()), (name, result)
-        assert name not in ('real_1985', 'real_2033', 'even') or not result.startswith(b'R '), (name, result)
+        # what the name says: the number of a refusal, or a file
+        number = name[1:].split('_')[0]
+        assert result.split()[:2] == [b'R', number.encode()] if number.isdigit() else not result.startswith(b'R '), (name, result)
         expected += b'# %s\n' % name.encode() + result
     with open(os.path.join(crate, 'args'), 'w') as f:
         f.write(''.join(n + '\n' for n in names))
