@@ -21,7 +21,7 @@ import sui_real  # noqa: E402
 from list_cases import MOON, SUN, TABLE, leap, segment, series, words  # noqa: E402
 
 crate = os.path.join(here, 'crates', 'build_cases')
-CIRCLE, LONGEST, SAMPLE = 12960000000, 2017080, 'real_1995_2024.in'
+CIRCLE, LONGEST = 12960000000, 2017080
 
 
 def built(data):
@@ -141,8 +141,8 @@ def main():
         name, sun, moon, table, first, count = sys.argv[1 if whole else 2:]
         write_input(name, sun, moon, table, int(first), int(count), whole)
         return
-    # the sample stands in data/ as a link; what is built from it is shown by show_cases
-    with open(os.path.join(here, 'samples', SAMPLE), 'rb') as f:
+    # the sample of samples/ stands in data/; what is built from it is shown by show_cases
+    with open(os.path.join(crate, 'data', 'sample'), 'rb') as f:
         sample = f.read()
     with open(os.path.join(here, 'crates', 'show_cases', 'data', 'sample'), 'wb') as f:
         f.write(built(sample))

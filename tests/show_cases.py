@@ -169,7 +169,8 @@ def write_files(path):
         assert (shown(data) == 'R 13\n') == name.startswith('r13_'), name
     assert len(files['largest']) == LARGEST
     with open(os.path.join(crate, 'args'), 'w', encoding='ascii') as f:
-        f.writelines(name + '\n' for name in files)
+        # `sample` is what tests/build_cases.py says of the sample of samples/
+        f.writelines(name + '\n' for name in ('sample', *files))
 
 
 def random_file(rng):
