@@ -126,6 +126,7 @@ static size_t proportional(size_t a, size_t b, size_t n) {
 }
 
 typedef struct { int64_t lo, hi, under; } looked;
+typedef struct { int64_t after, by; } enclosing;
 
 /* ---- the locator */
 #define LOCATOR(NAME, EVALUATION)                                                                                                       \
@@ -162,6 +163,17 @@ typedef struct { int64_t lo, hi, under; } looked;
         EVALUATION int64_t below = same_value_at(s, around.lo);                                                                         \
         EVALUATION int64_t above = same_value_at(s, around.hi);                                                                         \
         return NAME##_between(s, index, around.lo, around.hi, below, above);                                                            \
+    }                                                                                                                                   \
+    /* Two seconds that enclose the mark's, by one look: a second rises by 37 units at least. */                                        \
+    static enclosing NAME##_enclosed(const series *s, int64_t index) {                                                                  \
+        int64_t target = index * mark_size(s->moon), last = last_second(s);                                                             \
+        size_t k = segment_for(s->coefs, s->count, target);                                                                             \
+        const int64_t *c = s->coefs + 14 * k;                                                                                           \
+        int64_t at = second_in(s->start, last, k, half_length(s->moon), aim(c[0], c[1], c[2], c[3], target).place);                     \
+        EVALUATION int64_t value = same_value_at(s, at);                                                                                \
+        int64_t on = at + floor_div(target - value, 37);                                                                                \
+        if (target <= value) return (enclosing){on - 1, at};                                                                            \
+        return (enclosing){at, last <= on ? last : on + 1};                                                                             \
     }                                                                                                                                   \
     static int64_t NAME##_located(const series *s, int64_t index) {                                                                     \
         int64_t target = index * mark_size(s->moon), last = last_second(s);                                                             \

@@ -32,10 +32,14 @@ static inline bool holds(const int64_t *entry, int64_t second) {
     return 1000 * (86400 * entry[0] + entry[1]) <= 1000 * second - 32184;
 }
 
-static int64_t day_of(const int64_t *leap, size_t n, int64_t second) {
+static int64_t milli_of(const int64_t *leap, size_t n, int64_t second) {
     size_t i = n - 2;
     while (i > 0 && !holds(leap + i, second)) i -= 2;
-    return floor_div(1000 * second - 32184 - 1000 * leap[i + 1] + 28800000, 86400000);
+    return 1000 * second - 32184 - 1000 * leap[i + 1] + 28800000;
+}
+
+static int64_t day_of(const int64_t *leap, size_t n, int64_t second) {
+    return floor_div(milli_of(leap, n, second), 86400000);
 }
 
 /* the day of the first of January */
@@ -214,8 +218,12 @@ typedef struct { int64_t first; size_t count; } turns;
 
 #define SAME(NAME, COUNT)                                                                                                               \
     JUDGE(NAME, NAME##_located, COUNT)                                                                                                  \
+    /* Most days by one look: where both seconds that enclose the mark's are of one day. */                                             \
     static int64_t NAME##_day(const inputs *in, int b, int64_t index) {                                                                 \
-        COUNT return day_of(in->leap, in->n, NAME##_located(&in->body[b], index));                                                      \
+        COUNT enclosing near = NAME##_enclosed(&in->body[b], index);                                                                    \
+        int64_t milli = milli_of(in->leap, in->n, near.by), day = floor_div(milli, 86400000);                                           \
+        if (near.by - near.after <= (milli - 86400000 * day) / 1000) return day;                                                        \
+        return day_of(in->leap, in->n, NAME##_located(&in->body[b], index));                                                            \
     }                                                                                                                                   \
     static turns NAME##_turns(const series *s) {                                                                                        \
         int64_t circle = s->moon ? 4 : 24, turn = s->moon ? 0 : 18, next = NAME##_index(s, s->start) + 1, gap = (turn - next) % circle; \
