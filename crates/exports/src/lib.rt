@@ -1,0 +1,3 @@
+// The C interface (include/hazomekyu.h): each function calls one entry point, writes what it answered into the caller's record, and returns the record's number.
+mod record;
+pub mod time;

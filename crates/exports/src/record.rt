@@ -1,0 +1,112 @@
+// From an answer to the nine words of its record, and into the caller's.
+use clock::MilliAnswer;
+use clock::ShownAnswer;
+use clock::ShownTime;
+use dates::DateAnswer;
+use dates::DayAnswer;
+use refusals::Check;
+use refusals::Refusal;
+use whole::inner::signed;
+ghost use mathlib.Core.Path.{_≡_};
+ghost use mathlib.Core.List.{[], _∷_};
+ghost use Prim.Native.Nat.{_+_, _^_, _<_};
+ghost use lib.IntN.{pos};
+ghost use lib.ListN.{getD};
+ghost use Rattle.refusals.specs.Verdict.{refusal, paperCheck};
+ghost use Rattle.dates.specs.Answers.{paperDate, paperDay};
+ghost use Rattle.clock.specs.Answers.{paperMilli, paperShown};
+ghost use Rattle.exports.specs.Record.{recordOf, noNumbers, dateNumbers, dayNumbers, milliNumbers, shownNumbers};
+ghost use Rattle.exports.specs.Fits.{Fits, none, shownSize};
+
+// Into the caller's record, and its number.
+pub fn tell(words: [i64; 9], answer: &mut [i64; 9]) -> i64
+    ensures { λ r. ⌜ r ≡ getD words 0 (pos 0) ⌝ }
+    ensures { λ r. ⌜ now (answer .exit) ≡ words ⌝ }
+{
+    *answer = words;
+    words[0]
+}
+
+// A refusal: its number, its segment, and zeros.
+pub fn refused(r: Refusal) -> [i64; 9]
+    requires { ⌜ r .segment < 2 ^ 63 ⌝ }
+    ensures { λ w. ⌜ w ≡ recordOf (refusal r) noNumbers ⌝ }
+{
+    let number = signed(r.number as usize);
+    let segment = signed(r.segment);
+    [number, segment, 0, 0, 0, 0, 0, 0, 0]
+}
+
+// A judge's answer.
+pub fn check_record(answer: Check) -> [i64; 9]
+    requires { ⌜ Fits none (paperCheck answer) ⌝ }
+    ensures { λ r. ⌜ r ≡ recordOf (paperCheck answer) noNumbers ⌝ }
+{
+    match answer {
+        Check::Accepted => [0; 9],
+        Check::Refused(r) => refused(r),
+    }
+}
+
+pub fn date_record(answer: DateAnswer) -> [i64; 9]
+    requires { ⌜ Fits none (paperDate answer) ⌝ }
+    ensures { λ r. ⌜ r ≡ recordOf (paperDate answer) dateNumbers ⌝ }
+{
+    match answer {
+        DateAnswer::Found(d) => [0, 0, d.year, d.month, d.day, 0, 0, 0, 0],
+        DateAnswer::Refused(r) => refused(r),
+    }
+}
+
+pub fn day_record(answer: DayAnswer) -> [i64; 9]
+    requires { ⌜ Fits none (paperDay answer) ⌝ }
+    ensures { λ r. ⌜ r ≡ recordOf (paperDay answer) dayNumbers ⌝ }
+{
+    match answer {
+        DayAnswer::Found(d) => [0, 0, d.0, 0, 0, 0, 0, 0, 0],
+        DayAnswer::Refused(r) => refused(r),
+    }
+}
+
+pub fn milli_record(answer: MilliAnswer) -> [i64; 9]
+    requires { ⌜ Fits none (paperMilli answer) ⌝ }
+    ensures { λ r. ⌜ r ≡ recordOf (paperMilli answer) milliNumbers ⌝ }
+{
+    match answer {
+        MilliAnswer::Found(m) => [0, 0, m.0, 0, 0, 0, 0, 0, 0],
+        MilliAnswer::Refused(r) => refused(r),
+    }
+}
+
+// Date, hour, minute, second and millisecond.
+fn shown_words(t: ShownTime) -> [i64; 9]
+    requires { ⌜ shownSize t < 2 ^ 63 ⌝ }
+    ensures { λ r. ⌜ r ≡ pos 0 ∷ pos 0 ∷ shownNumbers t ⌝ }
+{
+    let d = t.date;
+    let hour = signed(t.hour as usize);
+    let minute = signed(t.minute as usize);
+    let second = signed(t.second as usize);
+    let millisecond = signed(t.millisecond as usize);
+    [
+        0,
+        0,
+        d.year,
+        d.month,
+        d.day,
+        hour,
+        minute,
+        second,
+        millisecond,
+    ]
+}
+
+pub fn shown_record(answer: ShownAnswer) -> [i64; 9]
+    requires { ⌜ Fits shownSize (paperShown answer) ⌝ }
+    ensures { λ r. ⌜ r ≡ recordOf (paperShown answer) shownNumbers ⌝ }
+{
+    match answer {
+        ShownAnswer::Found(t) => shown_words(t),
+        ShownAnswer::Refused(r) => refused(r),
+    }
+}
