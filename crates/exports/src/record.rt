@@ -4,19 +4,24 @@ use clock::ShownAnswer;
 use clock::ShownTime;
 use dates::DateAnswer;
 use dates::DayAnswer;
+use marks::CountAnswer;
+use marks::ListAnswer;
 use refusals::Check;
 use refusals::Refusal;
+use series::ValueAnswer;
 use whole::inner::signed;
 ghost use mathlib.Core.Path.{_≡_};
 ghost use mathlib.Core.List.{[], _∷_};
 ghost use Prim.Native.Nat.{_+_, _^_, _<_};
 ghost use lib.IntN.{pos};
 ghost use lib.ListN.{getD};
-ghost use Rattle.refusals.specs.Verdict.{refusal, paperCheck};
+ghost use Rattle.refusals.specs.Verdict.{answered, refusal, paperCheck};
 ghost use Rattle.dates.specs.Answers.{paperDate, paperDay};
 ghost use Rattle.clock.specs.Answers.{paperMilli, paperShown};
-ghost use Rattle.exports.specs.Record.{recordOf, noNumbers, dateNumbers, dayNumbers, milliNumbers, shownNumbers};
-ghost use Rattle.exports.specs.Fits.{Fits, none, shownSize};
+ghost use Rattle.series.specs.Acceptance.{paperValue};
+ghost use Rattle.marks.specs.Answers.{paperCount, paperList};
+ghost use Rattle.exports.specs.Record.{recordOf, noNumbers, dateNumbers, dayNumbers, milliNumbers, shownNumbers, valueNumbers, countNumbers};
+ghost use Rattle.exports.specs.Fits.{Fits, none, shownSize, itself};
 
 // Into the caller's record, and its number.
 pub fn tell(words: [i64; 9], answer: &mut [i64; 9]) -> i64
@@ -108,5 +113,44 @@ pub fn shown_record(answer: ShownAnswer) -> [i64; 9]
     match answer {
         ShownAnswer::Found(t) => shown_words(t),
         ShownAnswer::Refused(r) => refused(r),
+    }
+}
+
+pub fn value_record(answer: ValueAnswer) -> [i64; 9]
+    requires { ⌜ Fits none (paperValue answer) ⌝ }
+    ensures { λ r. ⌜ r ≡ recordOf (paperValue answer) valueNumbers ⌝ }
+{
+    match answer {
+        ValueAnswer::Value(v) => [0, 0, v, 0, 0, 0, 0, 0, 0],
+        ValueAnswer::Refused(r) => refused(r),
+    }
+}
+
+// One count.
+fn counted(n: usize) -> [i64; 9]
+    requires { ⌜ n < 2 ^ 63 ⌝ }
+    ensures { λ r. ⌜ r ≡ recordOf (answered n) countNumbers ⌝ }
+{
+    let count = signed(n);
+    [0, 0, count, 0, 0, 0, 0, 0, 0]
+}
+
+pub fn count_record(answer: CountAnswer) -> [i64; 9]
+    requires { ⌜ Fits itself (paperCount answer) ⌝ }
+    ensures { λ r. ⌜ r ≡ recordOf (paperCount answer) countNumbers ⌝ }
+{
+    match answer {
+        CountAnswer::Marks(n) => counted(n),
+        CountAnswer::Refused(r) => refused(r),
+    }
+}
+
+pub fn list_record(answer: ListAnswer) -> [i64; 9]
+    requires { ⌜ Fits itself (paperList answer) ⌝ }
+    ensures { λ r. ⌜ r ≡ recordOf (paperList answer) countNumbers ⌝ }
+{
+    match answer {
+        ListAnswer::Marks(n) => counted(n),
+        ListAnswer::Refused(r) => refused(r),
     }
 }
