@@ -1,2 +1,3 @@
 pub mod Record
 pub mod Fits
+pub mod theory

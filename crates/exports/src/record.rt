@@ -1,4 +1,7 @@
 // From an answer to the nine words of its record, and into the caller's.
+use almanac::Counts;
+use almanac::FileAnswer;
+use almanac::WriteAnswer;
 use clock::MilliAnswer;
 use clock::ShownAnswer;
 use clock::ShownTime;
@@ -20,8 +23,9 @@ ghost use Rattle.dates.specs.Answers.{paperDate, paperDay};
 ghost use Rattle.clock.specs.Answers.{paperMilli, paperShown};
 ghost use Rattle.series.specs.Acceptance.{paperValue};
 ghost use Rattle.marks.specs.Answers.{paperCount, paperList};
-ghost use Rattle.exports.specs.Record.{recordOf, noNumbers, dateNumbers, dayNumbers, milliNumbers, shownNumbers, valueNumbers, countNumbers};
-ghost use Rattle.exports.specs.Fits.{Fits, none, shownSize, itself};
+ghost use Rattle.almanac.specs.Answers.{paperFile, paperWritten};
+ghost use Rattle.exports.specs.Record.{recordOf, noNumbers, dateNumbers, dayNumbers, milliNumbers, shownNumbers, valueNumbers, countNumbers, fileNumbers};
+ghost use Rattle.exports.specs.Fits.{Fits, none, shownSize, fileSize, itself};
 
 // Into the caller's record, and its number.
 pub fn tell(words: [i64; 9], answer: &mut [i64; 9]) -> i64
@@ -152,5 +156,36 @@ pub fn list_record(answer: ListAnswer) -> [i64; 9]
     match answer {
         ListAnswer::Marks(n) => counted(n),
         ListAnswer::Refused(r) => refused(r),
+    }
+}
+
+// Leap entries, suis and months.
+fn file_words(n: Counts) -> [i64; 9]
+    requires { ⌜ fileSize n < 2 ^ 63 ⌝ }
+    ensures { λ r. ⌜ r ≡ recordOf (answered n) fileNumbers ⌝ }
+{
+    let entries = signed(n.entries);
+    let suis = signed(n.suis);
+    let months = signed(n.months);
+    [0, 0, entries, suis, months, 0, 0, 0, 0]
+}
+
+pub fn file_record(answer: FileAnswer) -> [i64; 9]
+    requires { ⌜ Fits fileSize (paperFile answer) ⌝ }
+    ensures { λ r. ⌜ r ≡ recordOf (paperFile answer) fileNumbers ⌝ }
+{
+    match answer {
+        FileAnswer::File(n) => file_words(n),
+        FileAnswer::Refused(r) => refused(r),
+    }
+}
+
+pub fn written_record(answer: WriteAnswer) -> [i64; 9]
+    requires { ⌜ Fits itself (paperWritten answer) ⌝ }
+    ensures { λ r. ⌜ r ≡ recordOf (paperWritten answer) countNumbers ⌝ }
+{
+    match answer {
+        WriteAnswer::Written(n) => counted(n),
+        WriteAnswer::Refused(r) => refused(r),
     }
 }

@@ -7,7 +7,7 @@ use Rattle.refusals.specs.Verdict.{paperCheck}
 use Rattle.series.specs.Series.{Series, series}
 use Rattle.series.specs.Acceptance.{seriesJudged}
 use Rattle.exports.specs.Record.{noNumbers, bodyOf}
-use Rattle.exports.specs.Fits.{series-fits}
+use Rattle.exports.specs.theory.Sky.{series-fits}
 use Rattle.exports.proofs.Told.{told}
 use Rattle.exports.proofs.sky.hzk_accept.Statement.{statement}
 use Rattle.exports.proofs.sky.hzk_accept.Tie as tie

@@ -6,7 +6,7 @@ use mir.Facts.{toZ-ofZ}
 use Rattle.series.specs.Series.{Series, series}
 use Rattle.marks.specs.Answers.{paperCount, countedMarks}
 use Rattle.exports.specs.Record.{countNumbers, bodyOf}
-use Rattle.exports.specs.Fits.{count-fits}
+use Rattle.exports.specs.theory.Sky.{count-fits}
 use Rattle.exports.proofs.Told.{told}
 use Rattle.exports.proofs.sky.hzk_count_marks.Statement.{statement}
 use Rattle.exports.proofs.sky.hzk_count_marks.Tie as tie

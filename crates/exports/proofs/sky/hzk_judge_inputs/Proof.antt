@@ -5,7 +5,7 @@ use native.Mathlib.Omega.{arith}
 use mir.Facts.{toZ-ofZ}
 use Rattle.refusals.specs.Verdict.{paperCheck}
 use Rattle.inputs.specs.Inputs.{Inputs, inputs, inputsJudged}
-use Rattle.exports.specs.Fits.{inputs-fit}
+use Rattle.exports.specs.theory.Sky.{inputs-fit}
 use Rattle.exports.specs.Record.{noNumbers}
 use Rattle.exports.proofs.Told.{told}
 use Rattle.exports.proofs.sky.hzk_judge_inputs.Statement.{statement}

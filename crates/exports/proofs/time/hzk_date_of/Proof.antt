@@ -3,7 +3,7 @@ use borrow.Author.Needs.{needs}
 use mathlib.Core.Path.{_≡_}
 use mir.Facts.{toZ-ofZ}
 use Rattle.dates.specs.Answers.{paperDate, dateOf}
-use Rattle.exports.specs.Fits.{date-fits}
+use Rattle.exports.specs.theory.Time.{date-fits}
 use Rattle.exports.specs.Record.{dateNumbers}
 use Rattle.exports.proofs.Told.{told}
 use Rattle.exports.proofs.time.hzk_date_of.Statement.{statement}

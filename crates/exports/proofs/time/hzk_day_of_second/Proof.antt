@@ -4,7 +4,7 @@ use mathlib.Core.Path.{_≡_}
 use mir.Facts.{toZ-ofZ}
 use Rattle.dates.specs.Answers.{paperDay}
 use Rattle.clock.specs.Answers.{dayOfSecond}
-use Rattle.exports.specs.Fits.{day-of-second-fits}
+use Rattle.exports.specs.theory.Time.{day-of-second-fits}
 use Rattle.exports.specs.Record.{dayNumbers}
 use Rattle.exports.proofs.Told.{told}
 use Rattle.exports.proofs.time.hzk_day_of_second.Statement.{statement}
