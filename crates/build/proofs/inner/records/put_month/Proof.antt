@@ -1,4 +1,4 @@
--- `build::records::put_month` meets its contract. Assumes nothing.
+-- `build::inner::records::put_month` meets its contract. Assumes nothing.
 use native.Mathlib.Omega.{arith}
 use lib.ListN.{length-set}
 use mir.Syntax.{w64}
@@ -6,10 +6,10 @@ use mir.Val.{SFits}
 use mir.Facts.{toZ-ofZ}
 use Rattle.almanac.specs.theory.Sections.{three-stored}
 use borrow.Author.Needs.{needs}
-use Rattle.build.proofs.records.put_month.Statement.{statement}
-use Rattle.build.proofs.records.put_month.Tie as tie
-use Rattle.build.proofs.records.put_month.Reads as reads
-use Rattle.build.proofs.records.put_month.Lts as lts
+use Rattle.build.proofs.inner.records.put_month.Statement.{statement}
+use Rattle.build.proofs.inner.records.put_month.Tie as tie
+use Rattle.build.proofs.inner.records.put_month.Reads as reads
+use Rattle.build.proofs.inner.records.put_month.Lts as lts
 
 mul-handle : tie.Need-mul-handle
 mul-handle c = search needs

@@ -37,7 +37,7 @@ fn put_month(out: &mut [i64], at: usize, month: Month)
 pub fn put_months(sui: Sui, out: &mut [i64], at: usize)
     requires { ⌜ sui .count ≤ 13 ⌝ }
     requires { ⌜ sui .count ≤ length (sui .months) ⌝ }
-    requires { ⌜ at + 39 ≤ length (now out) ⌝ }
+    requires { ⌜ at + 3 * sui .count ≤ length (now out) ⌝ }
     ensures { λ _. ⌜ now (out .exit) ≡ placed at (wordsOf (monthsIn sui)) (now (out .entry)) ⌝ }
 {
     let count = sui.count;

@@ -1,4 +1,4 @@
--- `build::records::put_sui` meets its contract. Assumes nothing.
+-- `build::inner::records::put_sui` meets its contract. Assumes nothing.
 use native.Mathlib.Omega.{arith}
 use lib.IntN.{pos}
 use lib.ListN.{length-set}
@@ -6,10 +6,10 @@ use mir.Facts.{toZ-ofZ}
 use Rattle.whole.specs.Ranges.{back}
 use Rattle.almanac.specs.theory.Sections.{two-stored}
 use borrow.Author.Needs.{needs}
-use Rattle.build.proofs.records.put_sui.Statement.{statement}
-use Rattle.build.proofs.records.put_sui.Tie as tie
-use Rattle.build.proofs.records.put_sui.Reads as reads
-use Rattle.build.proofs.records.put_sui.Lts as lts
+use Rattle.build.proofs.inner.records.put_sui.Statement.{statement}
+use Rattle.build.proofs.inner.records.put_sui.Tie as tie
+use Rattle.build.proofs.inner.records.put_sui.Reads as reads
+use Rattle.build.proofs.inner.records.put_sui.Lts as lts
 use Rattle.whole.proofs.inner.signed.Reads as signed-reads
 
 mul-year : tie.Need-mul-year

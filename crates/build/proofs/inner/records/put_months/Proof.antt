@@ -1,4 +1,4 @@
--- `build::records::put_months` meets its contract. The loop's invariant: the words of the first i months are put. Assumes nothing.
+-- `build::inner::records::put_months` meets its contract. The loop's invariant: the words of the first i months are put. Assumes nothing.
 use mathlib.Core.Path.{_≡_, refl, sym, ap, _∙_}
 use mathlib.Core.List.{List, [], _∷_, _++_}
 use Prim.Native.Nat.{ℕ, _+_, _-_, _*_, _≤_, _<_}
@@ -11,11 +11,11 @@ use Rattle.months.specs.declared.Month.{Month}
 use Rattle.build.specs.Build.{wordsOf}
 use Rattle.build.specs.theory.Words.{length-words-of}
 use Rattle.build.specs.theory.Stored.{nothing-put, month-put}
-use Rattle.build.proofs.records.put_months.Statement.{statement}
-use Rattle.build.proofs.records.put_months.Tie as tie
-use Rattle.build.proofs.records.put_months.Reads as reads
-use Rattle.build.proofs.records.put_months.Lts as lts
-use Rattle.build.proofs.records.put_month.Reads as put-month-reads
+use Rattle.build.proofs.inner.records.put_months.Statement.{statement}
+use Rattle.build.proofs.inner.records.put_months.Tie as tie
+use Rattle.build.proofs.inner.records.put_months.Reads as reads
+use Rattle.build.proofs.inner.records.put_months.Lts as lts
+use Rattle.build.proofs.inner.records.put_month.Reads as put-month-reads
 
 abbrev Inv-loop : tie.InvT-loop
 Inv-loop out₀ at sui count i₀ out i = (i ≤ count) × (out ≡ placed at (wordsOf (take i (sui .months))) out₀)
