@@ -1,3 +1,4 @@
 pub mod Record
+pub mod Months
 pub mod Fits
 pub mod theory

@@ -131,7 +131,7 @@ pub fn value_record(answer: ValueAnswer) -> [i64; 9]
 }
 
 // One count.
-fn counted(n: usize) -> [i64; 9]
+pub fn counted(n: usize) -> [i64; 9]
     requires { ⌜ n < 2 ^ 63 ⌝ }
     ensures { λ r. ⌜ r ≡ recordOf (answered n) countNumbers ⌝ }
 {
