@@ -2,3 +2,5 @@ pub mod Record
 pub mod Months
 pub mod Fits
 pub mod theory
+pub mod OneResult
+pub mod Examples
