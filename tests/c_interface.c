@@ -269,7 +269,7 @@ static void almanac(void) {
     spoilt("a file of two entries", 0, 2);
     spoilt("a count of months that would overflow", 24, 0xFF);
     spoilt("an offset past its range", 10, 1);
-    spoilt("a year before 1700", 17, 6);
+    spoilt("a year before 1700", 17, 5);
     spoilt("a sui of 13 months", 20, 13);
     spoilt("a month of 31 days", 33, 31);
     spoilt("a gap between months", 42, 30);
@@ -341,7 +341,6 @@ static void listed(const char *what, size_t n, int64_t index, int64_t second, in
 static void real(const char *folder, const char *almanac_file) {
     take(folder, "real_2033");
     expect("the real inputs", hzk_judge_inputs(SERIES, fresh()), ACCEPTED);
-    expect("the real Sun for a Moon", hzk_accept(HZK_MOON, in.sun_start, in.sun, in.sun_words, fresh()), REFUSED_AT(5, 1));
     expect("value of the Sun before a mark", hzk_value_at(HZK_SUN, in.sun_start, in.sun, in.sun_words, 1044362564, fresh()), ANSWERED(439019999660));
     expect("value of the Sun at it", hzk_value_at(HZK_SUN, in.sun_start, in.sun, in.sun_words, 1044362565, fresh()), ANSWERED(439020000083));
     expect("value of the Moon before a mark", hzk_value_at(HZK_MOON, in.moon_start, in.moon, in.moon_words, 1040848824, fresh()), ANSWERED(5297399998176));
@@ -399,6 +398,8 @@ static void real(const char *folder, const char *almanac_file) {
     size_t bytes = f ? fread(wanted, 1, sizeof wanted, f) : 0;
     if (f) fclose(f);
     take(folder, "sample");
+    expect("2760 segments of the Moon", hzk_accept(HZK_MOON, in.moon_start, in.moon, in.moon_words, fresh()), ACCEPTED);
+    expect("too many of the Sun", hzk_accept(HZK_SUN, in.moon_start, in.moon, in.moon_words, fresh()), REFUSED(2));
     expect("build thirty suis", hzk_build(SERIES, in.first, in.count, lend_file(), 16140, fresh()), ANSWERED(3725));
     check("as many bytes as wanted", bytes == 3725);
     file_holds("the bytes that are wanted", wanted, bytes);
