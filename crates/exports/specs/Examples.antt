@@ -11,10 +11,8 @@ use Rattle.refusals.specs.Verdict.{Verdict, answered, refused, accepted}
 use Rattle.refusals.specs.Evaluated.{isAccepted, isRefused}
 use Rattle.refusals.specs.Lent.{writtenInto}
 use Rattle.dates.specs.declared.Date.{Date}
-use Rattle.clock.specs.declared.ShownTime.{ShownTime}
 use Rattle.series.specs.declared.Body.{Body}
 use Rattle.series.specs.declared.Body.the-variants.{Sun, Moon}
-use Rattle.months.specs.declared.Month.{Month}
 use Rattle.months.specs.declared.Sui.{Sui}
 use Rattle.build.specs.Build.{wordsOf}
 use Rattle.exports.specs.Record.{numberOf, recordOf, noNumbers, dateNumbers, dayNumbers, milliNumbers, shownNumbers, valueNumbers, countNumbers, fileNumbers, bodyOf}

@@ -1,7 +1,6 @@
 -- Any two results that the promise of an export allows are the same result: the number returned, the record, and each lent place. One law serves all; for each export
 -- it is named with what the export answers. Assumes nothing.
 use mathlib.Core.Path.{_≡_, sym, _∙_}
-use mathlib.Core.Bool.{Bool}
 use mathlib.Core.List.{List}
 use Prim.Native.Nat.{ℕ}
 use lib.IntN.{ℤ}

@@ -1,7 +1,7 @@
 -- The almanac file and its build: the numbers of their answers and refusals fit a word. Assumes nothing but what a statement says itself.
-use mathlib.Core.Path.{_≡_, refl, sym, ap, _∙_}
-use mathlib.Core.Bool.{false, not}
-use mathlib.Core.List.{List, [], _∷_, _++_}
+use mathlib.Core.Path.{_≡_, sym, ap, _∙_}
+use mathlib.Core.Bool.{not}
+use mathlib.Core.List.{List}
 use Prim.Native.Nat.{ℕ, zero, suc, _+_, _^_, _<_, _≤_}
 use native.Mathlib.Omega.{arith}
 use borrow.Author.Tests.{ltb-false}
@@ -10,11 +10,11 @@ use lib.IntN.{ℤ, pos, natAbs, _+ℤ_}
 use lib.ListN.{length}
 use Rattle.whole.specs.Tests.{inRange}
 use Rattle.words.specs.Words.{pattern4}
-use Rattle.refusals.specs.Verdict.{Verdict, answered, refuseWhen, _before_, _then_, answers-apart, test-answered, then-answered}
+use Rattle.refusals.specs.Verdict.{answered, refuseWhen, _before_, answers-apart, test-answered, then-answered}
 use Rattle.inputs.specs.Inputs.{Inputs}
 use Rattle.content.specs.Content.{Content, lawful}
 use Rattle.almanac.specs.declared.Counts.{Counts}
-use Rattle.almanac.specs.Layout.{suisAt, monthsAt, endAt, countsOf, contentAt, contentOf, bytesOf, fileOf}
+use Rattle.almanac.specs.Layout.{suisAt, monthsAt, endAt, countsOf, contentOf, bytesOf, fileOf}
 use Rattle.almanac.specs.Answers.{countsIn, checkedFile, tooShort, contentRead, readFile, bytesInto, bytesToWrite, writtenFile}
 use Rattle.almanac.specs.theory.Reader.{checked}
 use Rattle.build.specs.Build.{suisBy, contentBy, bytesBy, builtBy, contentBuilt, bytesOfYears, bytesBuilt, fileBuilt}
@@ -34,13 +34,13 @@ module _ (file : List ℕ) where
       let months = pattern4 file (monthsAt entries suis) in
       and-then
       (and-then
-      (test (ltb (length file) 4) 13
-      and test (ltb (length file) (suisAt entries + 4)) 13
-      and test (ltb (length file) (monthsAt entries suis + 4)) 13
-      and test (not (eqb (length file) (endAt entries suis months))) 13
+      (test (ltb (length file) 4) 13 tt
+      and test (ltb (length file) (suisAt entries + 4)) 13 tt
+      and test (ltb (length file) (monthsAt entries suis + 4)) 13 tt
+      and test (not (eqb (length file) (endAt entries suis months))) 13 tt
       and answer (omega arith))
       (λ n. answer (omega arith)))
-      (λ c. test (not (lawful c)) 13 and answer (omega arith))
+      (λ c. test (not (lawful c)) 13 tt and answer (omega arith))
 
   counts-small : (n : Counts) → checkedFile file ≡ answered n → fileSize n < 2 ^ 63
   counts-small n e = let k = checked file n (sym e) in omega (arith, k .entries-few, k .suis-few, k .months-few)
@@ -62,12 +62,12 @@ module _ (file : List ℕ) where
     pub read-fits : Fits fileSize (readFile file leap suis months)
     unfolding readFile contentRead
     read-fits =
-        with-answer (and-then (and-then file-of-fits (λ c. test (tooShort c leap suis months) 12 and answer (omega arith))) (λ c. answer (omega arith)))
+        with-answer (and-then (and-then file-of-fits (λ c. test (tooShort c leap suis months) 12 tt and answer (omega arith))) (λ c. answer (omega arith)))
         (λ n e. counts-small n (read-is-checked n e))
 
 -- ---- no more bytes are written than there is room for
 bytes-into-fits : (c : Content) (room : ℕ) → Fits none (bytesInto c room)
-bytes-into-fits c room = test (ltb room (length (bytesOf c))) 12 and answer (omega arith)
+bytes-into-fits c room = test (ltb room (length (bytesOf c))) 12 tt and answer (omega arith)
 
 within-room : (c : Content) (room : ℕ) (bytes : List ℕ) → bytesInto c room ≡ answered bytes → length bytes ≤ room
 within-room c room bytes e =
@@ -79,7 +79,7 @@ within-room c room bytes e =
 pub write-fits : (c : Content) (room : ℕ) → room < 2 ^ 63 → Fits itself (writtenFile c room)
 unfolding writtenFile bytesToWrite
 write-fits c room h =
-    with-answer (and-then (test (not (lawful c)) 13 and bytes-into-fits c room) (λ bytes. answer (omega arith)))
+    with-answer (and-then (test (not (lawful c)) 13 tt and bytes-into-fits c room) (λ bytes. answer (omega arith)))
     (λ n e.
     let all = then-answered (bytesToWrite c room) (λ (bytes : List ℕ). answered (length bytes)) n e in
     let few = within-room c room (all .0) (test-answered (not (lawful c)) 13 (bytesInto c room) (all .0) (all .1) .1) in
@@ -105,7 +105,7 @@ module _ (i : Inputs) (zone : ℤ) where
   unfolding fileBuilt builtBy
   build-fits h k first count room r =
       let bad = not (inRange (pos 1) (pos 128) count) in
-      with-answer (and-then (inputs-fit i h k and test bad 8 and bytes-fit first (natAbs count) room) (λ bytes. answer (omega arith)))
+      with-answer (and-then (inputs-fit i h k and test bad 8 tt and bytes-fit first (natAbs count) room) (λ bytes. answer (omega arith)))
       (λ n e.
       let all = then-answered (bytesBuilt i zone first count room) (λ (bytes : List ℕ). answered (length bytes)) n e in
       let judged = inputs-answered i (refuseWhen bad 8 before bytesOfYears i zone first (natAbs count) room) (all .1) in

@@ -1,9 +1,8 @@
 -- Series and marks, and the inputs of a build: the numbers of their answers and refusals fit a word. Assumes nothing but what a statement says itself.
-use mathlib.Core.Path.{_≡_}
 use mathlib.Core.Bool.{Bool, true, false, cond, not, _||_}
 use Prim.Native.Nat.{ℕ, zero, suc, _+_, _-_, _*_, _%_, _^_, _<_, _≤_}
 use native.Mathlib.Omega.{arith}
-use lib.Dec.{ltb, eqb}
+use lib.Dec.{T, ltb, eqb}
 use lib.IntN.{ℤ, pos, negℤ}
 use lib.ListN.{length}
 use lib.Signed.{ltZ}
@@ -19,17 +18,17 @@ use Rattle.marks.specs.Answers.{countedMarks, listedInto}
 use Rattle.marks.specs.Theorems.{listed-only-when}
 use Rattle.marks.specs.theory.StretchLaws.{few}
 use Rattle.inputs.specs.Inputs.{Inputs, sun, moon, anyEarly, inputsJudged}
-use Rattle.exports.specs.Fits.{Fits, none, itself, answer, test, _and_, with-answer}
+use Rattle.exports.specs.Fits.{Fits, inTable, none, itself, answer, test, _and_, with-answer}
 use Rattle.exports.specs.theory.Time.{leap-fits}
 
 -- ---- series: a segment that is named is one of the series'
-first-bad-fits : (number : ℕ) (bad : ℕ → Bool) (k m : ℕ) → k + m < 2 ^ 63 → Fits none (firstBad number bad k m)
+first-bad-fits : (number : ℕ) → T (inTable number) → (bad : ℕ → Bool) (k m : ℕ) → k + m < 2 ^ 63 → Fits none (firstBad number bad k m)
 unfolding firstBad
-first-bad-fits number bad k zero h = answer (omega arith)
-first-bad-fits number bad k (suc m) h = here (bad k) (first-bad-fits number bad (suc k) m (omega arith))
+first-bad-fits number t bad k zero h = answer (omega arith)
+first-bad-fits number t bad k (suc m) h = here (bad k) (first-bad-fits number t bad (suc k) m (omega arith))
   where
     here : (b : Bool) → Fits none (firstBad number bad (suc k) m) → Fits none (cond b (refused number k) (firstBad number bad (suc k) m))
-    here true behind = record { small = omega arith }
+    here true behind = record { small = omega arith; numbered = t }
     here false behind = behind
 
 module _ (s : Series) (long : length (s .coefs) < 2 ^ 63) where
@@ -39,14 +38,14 @@ module _ (s : Series) (long : length (s .coefs) < 2 ^ 63) where
       let n = length (s .coefs) in
       let coefs = s .coefs in
       let few : segments coefs ≤ n = omega arith in
-      (test (not (eqb (n % 14) 0)) 2 and test (eqb n 0) 2 and test (ltb (14 * numbers (s .body) .mostSegments) n) 2 and test (ltZ (s .start) (negℤ (pos 10000000000))) 2 and test (ltZ (pos 10000000000) (s .start)) 2)
-      and first-bad-fits 3 (badRange coefs) 0 (segments coefs) (omega arith)
-      and first-bad-fits 4 (slow (s .body) coefs) 0 (segments coefs) (omega arith)
-      and first-bad-fits 5 (badJoint (s .body) coefs) 1 (segments coefs - 1) (omega arith)
+      (test (not (eqb (n % 14) 0)) 2 tt and test (eqb n 0) 2 tt and test (ltb (14 * numbers (s .body) .mostSegments) n) 2 tt and test (ltZ (s .start) (negℤ (pos 10000000000))) 2 tt and test (ltZ (pos 10000000000) (s .start)) 2 tt)
+      and first-bad-fits 3 tt (badRange coefs) 0 (segments coefs) (omega arith)
+      and first-bad-fits 4 tt (slow (s .body) coefs) 0 (segments coefs) (omega arith)
+      and first-bad-fits 5 tt (badJoint (s .body) coefs) 1 (segments coefs - 1) (omega arith)
 
   pub value-fits : (second : ℤ) → Fits none (valueOf s second)
   unfolding valueOf
-  value-fits second = series-fits and test (ltZ second (s .start)) 6 and test (ltZ (lastSecond s) second) 6 and answer (omega arith)
+  value-fits second = series-fits and test (ltZ second (s .start)) 6 tt and test (ltZ (lastSecond s) second) 6 tt and answer (omega arith)
 
   -- there are no more marks than seconds
   few-marks : Accepted s → length (listedMarks s) < 2 ^ 63
@@ -57,7 +56,7 @@ module _ (s : Series) (long : length (s .coefs) < 2 ^ 63) where
 
   pub list-fits : (room : ℕ) → Fits itself (listedInto s room)
   list-fits room =
-      with-answer (series-fits and test (ltb room (length (markWords (listedMarks s)))) 12 and answer (omega arith))
+      with-answer (series-fits and test (ltb room (length (markWords (listedMarks s)))) 12 tt and answer (omega arith))
       (λ n e. let a = listed-only-when s room n e in let many = few-marks (a .is-accepted) in omega (arith, a .is-count))
 
 -- ---- the inputs of a build
@@ -67,4 +66,4 @@ inputs-fit i h k =
     leap-fits (i .leap)
     and series-fits (sun i) h
     and series-fits (moon i) k
-    and test (anyEarly (i .leap) (listedMarks (sun i)) || anyEarly (i .leap) (listedMarks (moon i))) 7
+    and test (anyEarly (i .leap) (listedMarks (sun i)) || anyEarly (i .leap) (listedMarks (moon i))) 7 tt

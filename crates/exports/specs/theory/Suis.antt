@@ -14,7 +14,7 @@ use Rattle.whole.specs.Lists.{placed}
 use Rattle.whole.specs.Tabulated.{length-tabulate}
 use Rattle.refusals.specs.declared.Refusal.{Refusal}
 use Rattle.refusals.specs.declared.Check.the-variants.{Accepted, Refused}
-use Rattle.refusals.specs.Verdict.{Verdict, answered, refused, refusal, _before_, _then_}
+use Rattle.refusals.specs.Verdict.{Verdict, answered, refused, refusal}
 use Rattle.refusals.specs.Lent.{writtenInto}
 use Rattle.marks.specs.Marks.{Mark}
 use Rattle.marks.specs.Listed.{listedMarks}
@@ -43,20 +43,13 @@ pub record Whole (sui : Sui) : Type 0 where
   pub few : sui .count ≤ 13
   pub has-months : sui .count ≤ length (sui .months)
 
-abbrev Stored : Verdict Sui → Type 0
-Stored (answered sui) = Whole sui
-Stored (refused number segment) = segment < 2 ^ 63
-
 pub record Storable (v : Verdict Sui) : Type 0 where
-  pub stored : Stored v
+  pub fits : Fits none v
+  pub whole : (sui : Sui) → v ≡ answered sui → Whole sui
 
-storable : {v : Verdict Sui} → Fits none v → ((sui : Sui) → v ≡ answered sui → Whole sui) → Storable v
-storable {v = answered sui} f w = record { stored = w sui refl }
-storable {v = refused number segment} f w = record { stored = f .small }
-
-whole : {year : ℤ} {moons zhongqi : List ℤ} {sui : Sui} → IsSui year moons zhongqi sui → Whole sui
+has-all : {year : ℤ} {moons zhongqi : List ℤ} {sui : Sui} → IsSui year moons zhongqi sui → Whole sui
 unfolding numbered
-whole {year} {moons} {zhongqi} {sui} s =
+has-all {year} {moons} {zhongqi} {sui} s =
     let made = days-of-sui year moons zhongqi (s .rule) in
     let days = made .0 in
     let few = at-most-thirteen (days .months) (found-twelve moons zhongqi (made .1)) in
@@ -65,28 +58,28 @@ whole {year} {moons} {zhongqi} {sui} s =
 -- ---- refusals by 8 to 11 name no segment
 days-fit : (moons zhongqi : List ℤ) → Fits none (daysOf moons zhongqi)
 unfolding daysOf
-days-fit moons zhongqi = test (moonMissing moons zhongqi) 8 and test (not (twelveOrThirteen (monthCount moons zhongqi))) 9 and answer (omega arith)
+days-fit moons zhongqi = test (moonMissing moons zhongqi) 8 tt and test (not (twelveOrThirteen (monthCount moons zhongqi))) 9 tt and answer (omega arith)
 
 sui-of-fits : (year : ℤ) (days : SuiDays) → Fits none (suiOf year days)
 unfolding suiOf lengthsJudged leapMonthJudged
-sui-of-fits year days = test (ltb (firstBadMonth days) (days .months)) 10 and test (noneWithout days) 11 and answer (omega arith)
+sui-of-fits year days = test (ltb (firstBadMonth days) (days .months)) 10 tt and test (noneWithout days) 11 tt and answer (omega arith)
 
 months-fit : (year : ℤ) (moons zhongqi : List ℤ) → Fits none (monthsOf year moons zhongqi)
 unfolding monthsOf suiIn
-months-fit year moons zhongqi = test (not (listsKept year moons zhongqi)) 8 and and-then (days-fit moons zhongqi) (sui-of-fits year)
+months-fit year moons zhongqi = test (not (listsKept year moons zhongqi)) 8 tt and and-then (days-fit moons zhongqi) (sui-of-fits year)
 
 solstice-fits : (marks : List Mark) → Fits none (oneSolstice marks)
 unfolding oneSolstice
-solstice-fits [] = record { small = omega arith }
+solstice-fits [] = record { small = omega arith; numbered = tt }
 solstice-fits (m ∷ []) = answer (omega arith)
-solstice-fits (m ∷ n ∷ marks) = record { small = omega arith }
+solstice-fits (m ∷ n ∷ marks) = record { small = omega arith; numbered = tt }
 
 module _ (i : Inputs) (zone : ℤ) where
   pub sui-of-year-fits : (year : ℤ) → Fits none (suiOfYear i zone year)
   unfolding suiDays daysByMarks
   sui-of-year-fits year =
       and-then
-      (test (not (yearInRange year)) 8
+      (test (not (yearInRange year)) 8 tt
       and and-then (solstice-fits (solsticesOf (i .leap) zone (listedMarks (sun i)) (year -ℤ pos 1)))
       (λ first. and-then (solstice-fits (solsticesOf (i .leap) zone (listedMarks (sun i)) year))
       (λ last. days-fit (newMoonDaysOf (i .leap) zone (listedMarks (moon i))) (zhongqiDaysOf (i .leap) zone (listedMarks (sun i)) first last))))
@@ -98,10 +91,14 @@ module _ (i : Inputs) (zone : ℤ) where
 
 -- ---- so what is found can be stored
 pub months-storable : (year : ℤ) (moons zhongqi : List ℤ) → Storable (monthsOf year moons zhongqi)
-months-storable year moons zhongqi = storable (months-fit year moons zhongqi) (λ sui e. whole (accepted-is-sui year moons zhongqi e))
+months-storable year moons zhongqi = record { fits = months-fit year moons zhongqi; whole = λ sui e. has-all (accepted-is-sui year moons zhongqi e) }
 
 pub sui-storable : (i : Inputs) → length (i .sunCoefs) < 2 ^ 63 → length (i .moonCoefs) < 2 ^ 63 → (zone year : ℤ) → Storable (suiFor i zone year)
-sui-storable i h k zone year = storable (sui-fits i zone h k year) (λ sui e. whole (answered-is-sui i zone year e .is-sui))
+sui-storable i h k zone year = record { fits = sui-fits i zone h k year; whole = λ sui e. has-all (answered-is-sui i zone year e .is-sui) }
+
+pub stored-fits : {v : Verdict Sui} → Storable v → (room : ℕ) → Fits none (suiInto v room)
+unfolding suiInto
+stored-fits s room = and-then (s .fits) (λ sui. test (ltb room (length (suiWords sui))) 12 tt and answer (omega arith))
 
 -- what was found, on paper
 pub on-paper : {r : SuiAnswer} (v : Verdict Sui) → r ≡ suiAnswer v → paperSui r ≡ v
@@ -119,7 +116,7 @@ module _ (found : SuiAnswer) (out : List ℤ) where
   -- what was found is a refusal
   module _ (r : Refusal) (is-refused : found .check ≡ Refused r) where
     pub segment-small : Storable (paperSui found) → r .segment < 2 ^ 63
-    segment-small s = rw is-refused at (s .stored)
+    segment-small s = rw is-refused at (s .fits .small)
 
     pub store-refused : {words : List ℤ} → words ≡ recordOf (refusal r) noNumbers → Promises words out
     unfolding suiInto
@@ -128,7 +125,7 @@ module _ (found : SuiAnswer) (out : List ℤ) where
   -- or a sui, for which there is room or not
   module _ (is-found : found .check ≡ Accepted) (s : Storable (paperSui found)) where
     pub is-whole : Whole (found .sui)
-    is-whole = rw is-found at (s .stored)
+    is-whole = s .whole (found .sui) (rw is-found)
 
     pub store-short : {words : List ℤ} → length out < 3 * found .sui .count → words ≡ recordOf (refused 12 0) noNumbers → Promises words out
     unfolding suiInto

@@ -17,22 +17,22 @@ use Rattle.exports.specs.Fits.{Fits, none, shownSize, answer, test, _and
 -- ---- days and dates
 pub date-fits : (n : Day) → Fits none (dateOf n)
 unfolding dateOf
-date-fits n = test (not (hasDate (n .0))) 6 and answer (omega arith)
+date-fits n = test (not (hasDate (n .0))) 6 tt and answer (omega arith)
 
 pub day-fits : (d : Date) → Fits none (dayOf d)
 unfolding dayOf
-day-fits d = test (not (valid d && hasDate (dayNumber d))) 6 and answer (omega arith)
+day-fits d = test (not (valid d && hasDate (dayNumber d))) 6 tt and answer (omega arith)
 
 -- ---- the clock
 module _ (leap : List ℤ) where
   pub leap-fits : Fits none (leapJudged leap)
   unfolding leapJudged
-  leap-fits = test (not (leapLawful leap)) 1
+  leap-fits = test (not (leapLawful leap)) 1 tt
 
   module _ (s : Second) where
     clock-fits : Fits none (clockJudged leap s)
     unfolding clockJudged
-    clock-fits = leap-fits and test (not (convertible s)) 6 and test (early leap s) 7
+    clock-fits = leap-fits and test (not (convertible s)) 6 tt and test (early leap s) 7 tt
 
     pub milli-fits : Fits none (milliOf leap s)
     unfolding milliOf

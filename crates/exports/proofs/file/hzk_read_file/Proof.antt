@@ -1,10 +1,7 @@
 -- `exports::file::hzk_read_file` meets its contract. Assumes nothing.
 use borrow.Author.Needs.{needs}
-use mathlib.Core.Path.{_≡_}
 use lib.ListN.{length}
-use Rattle.refusals.specs.Lent.{writtenInto}
-use Rattle.content.specs.Content.{leap-words, sui-words, month-words}
-use Rattle.almanac.specs.Answers.{paperFile, readFile, contentRead}
+use Rattle.almanac.specs.Answers.{paperFile}
 use Rattle.almanac.specs.theory.Reader.{Promises}
 use Rattle.exports.specs.theory.File.{read-fits}
 use Rattle.exports.specs.Record.{fileNumbers}

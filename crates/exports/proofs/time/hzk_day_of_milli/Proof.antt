@@ -2,8 +2,7 @@
 use borrow.Author.Needs.{needs}
 use mathlib.Core.Path.{_≡_, ap}
 use mir.Facts.{toZ-ofZ}
-use Rattle.refusals.specs.Verdict.{Verdict, answered}
-use Rattle.times.specs.declared.Day.{Day}
+use Rattle.refusals.specs.Verdict.{answered}
 use Rattle.clock.specs.Clock.{dayOfMilli}
 use Rattle.exports.specs.Record.{dayNumbers}
 use Rattle.exports.proofs.Told.{told}
