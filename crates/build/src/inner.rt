@@ -1,4 +1,4 @@
-// For builds in other zones: the file of n suis of accepted inputs. The zone is in minutes.
+// For builds in other zones: the file of n suis of accepted inputs. The zone is in minutes. And the records of a sui, as words.
 use super::ahead::build_at;
 use almanac::WriteAnswer;
 use series::Body;
@@ -15,6 +15,8 @@ ghost use Rattle.inputs.specs.Inputs.{inputs};
 ghost use Rattle.inputs.specs.Known.{Known};
 ghost use Rattle.almanac.specs.Answers.{paperWritten, bytesCounted, all-bytes};
 ghost use Rattle.build.specs.Build.{bytesOfYears};
+
+pub mod records;
 
 // Finds where the first sui begins, and builds from there.
 pub fn build_in(

@@ -13,7 +13,6 @@ ghost use Rattle.build.specs.Build.{bytesBuilt, fileBuilt};
 
 mod ahead;
 pub mod inner;
-mod records;
 mod years;
 
 // Builds the file of `count` suis from year `first` on, by UTC+8 days, and says how many bytes it took. Everything is judged before the first byte is written.

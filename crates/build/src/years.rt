@@ -1,6 +1,6 @@
 // The suis of consecutive years, one after another: each is found, and its records are put behind those before it.
-use super::records::put_months;
-use super::records::put_sui;
+use super::inner::records::put_months;
+use super::inner::records::put_sui;
 use refusals::Check;
 use refusals::Refusal;
 use suis::inner::Places;

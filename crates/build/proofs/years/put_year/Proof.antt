@@ -17,8 +17,8 @@ use Rattle.build.proofs.years.put_year.Statement.{statement}
 use Rattle.build.proofs.years.put_year.Tie as tie
 use Rattle.build.proofs.years.put_year.Reads as reads
 use Rattle.build.proofs.years.put_year.Lts as lts
-use Rattle.build.proofs.records.put_months.Reads as put-months-reads
-use Rattle.build.proofs.records.put_sui.Reads as put-sui-reads
+use Rattle.build.proofs.inner.records.put_months.Reads as put-months-reads
+use Rattle.build.proofs.inner.records.put_sui.Reads as put-sui-reads
 use Rattle.suis.proofs.inner.sui_after.Reads as sui-after-reads
 
 abbrev called : lts.Claims
@@ -76,7 +76,7 @@ mul-put-months : tie.Need-mul-put-months
 mul-put-months c = let start = c .before .before .before .before .before .before .before .before in record { fits = omega (arith, start .pre .1 .1 .0) }
 
 put-months-requires : tie.Need-put-months-requires
-put-months-requires c κs = let told = c .before .before .before .before .before in (thirteen-at-most told, (has-its-months told, told .before .before .before .pre .1 .1 .1 .1))
+put-months-requires c κs = let told = c .before .before .before .before .before in (thirteen-at-most told, (has-its-months told, omega (arith, thirteen-at-most told, told .before .before .before .pre .1 .1 .1 .1)))
 
 same-length : tie.Need-same-length
 same-length c = search needs

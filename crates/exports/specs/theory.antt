@@ -1,0 +1,4 @@
+pub mod Time
+pub mod Sky
+pub mod File
+pub mod Suis

@@ -1,0 +1,69 @@
+-- Series and marks, and the inputs of a build: the numbers of their answers and refusals fit a word. Assumes nothing but what a statement says itself.
+use mathlib.Core.Bool.{Bool, true, false, cond, not, _||_}
+use Prim.Native.Nat.{ℕ, zero, suc, _+_, _-_, _*_, _%_, _^_, _<_, _≤_}
+use native.Mathlib.Omega.{arith}
+use lib.Dec.{T, ltb, eqb}
+use lib.IntN.{ℤ, pos, negℤ}
+use lib.ListN.{length}
+use lib.Signed.{ltZ}
+use Rattle.refusals.specs.Verdict.{refused, answered-says}
+use Rattle.refusals.specs.Search.{firstBad}
+use Rattle.series.specs.Bodies.{numbers}
+use Rattle.series.specs.Series.{Series, segments, valueAt, lastSecond}
+use Rattle.series.specs.Acceptance.{Accepted, badRange, slow, badJoint, seriesJudged, valueOf}
+use Rattle.series.specs.theory.Span.{span-few}
+use Rattle.marks.specs.Words.{markWords}
+use Rattle.marks.specs.Listed.{listedMarks}
+use Rattle.marks.specs.Answers.{countedMarks, listedInto}
+use Rattle.marks.specs.Theorems.{listed-only-when}
+use Rattle.marks.specs.theory.StretchLaws.{few}
+use Rattle.inputs.specs.Inputs.{Inputs, sun, moon, anyEarly, inputsJudged}
+use Rattle.exports.specs.Fits.{Fits, inTable, none, itself, answer, test, _and_, with-answer}
+use Rattle.exports.specs.theory.Time.{leap-fits}
+
+-- ---- series: a segment that is named is one of the series'
+first-bad-fits : (number : ℕ) → T (inTable number) → (bad : ℕ → Bool) (k m : ℕ) → k + m < 2 ^ 63 → Fits none (firstBad number bad k m)
+unfolding firstBad
+first-bad-fits number t bad k zero h = answer (omega arith)
+first-bad-fits number t bad k (suc m) h = here (bad k) (first-bad-fits number t bad (suc k) m (omega arith))
+  where
+    here : (b : Bool) → Fits none (firstBad number bad (suc k) m) → Fits none (cond b (refused number k) (firstBad number bad (suc k) m))
+    here true behind = record { small = omega arith; numbered = t }
+    here false behind = behind
+
+module _ (s : Series) (long : length (s .coefs) < 2 ^ 63) where
+  pub series-fits : Fits none (seriesJudged s)
+  unfolding seriesJudged
+  series-fits =
+      let n = length (s .coefs) in
+      let coefs = s .coefs in
+      let few : segments coefs ≤ n = omega arith in
+      (test (not (eqb (n % 14) 0)) 2 tt and test (eqb n 0) 2 tt and test (ltb (14 * numbers (s .body) .mostSegments) n) 2 tt and test (ltZ (s .start) (negℤ (pos 10000000000))) 2 tt and test (ltZ (pos 10000000000) (s .start)) 2 tt)
+      and first-bad-fits 3 tt (badRange coefs) 0 (segments coefs) (omega arith)
+      and first-bad-fits 4 tt (slow (s .body) coefs) 0 (segments coefs) (omega arith)
+      and first-bad-fits 5 tt (badJoint (s .body) coefs) 1 (segments coefs - 1) (omega arith)
+
+  pub value-fits : (second : ℤ) → Fits none (valueOf s second)
+  unfolding valueOf
+  value-fits second = series-fits and test (ltZ second (s .start)) 6 tt and test (ltZ (lastSecond s) second) 6 tt and answer (omega arith)
+
+  -- there are no more marks than seconds
+  few-marks : Accepted s → length (listedMarks s) < 2 ^ 63
+  few-marks e = omega (arith, few (valueAt s) (numbers (s .body) .markSize) (s .start) (lastSecond s), span-few s e)
+
+  pub count-fits : Fits itself (countedMarks s)
+  count-fits = with-answer (series-fits and answer (omega arith)) (λ n e. let a = answered-says (seriesJudged s) e in let many = few-marks (a .0) in omega (arith, a .1))
+
+  pub list-fits : (room : ℕ) → Fits itself (listedInto s room)
+  list-fits room =
+      with-answer (series-fits and test (ltb room (length (markWords (listedMarks s)))) 12 tt and answer (omega arith))
+      (λ n e. let a = listed-only-when s room n e in let many = few-marks (a .is-accepted) in omega (arith, a .is-count))
+
+-- ---- the inputs of a build
+pub inputs-fit : (i : Inputs) → length (i .sunCoefs) < 2 ^ 63 → length (i .moonCoefs) < 2 ^ 63 → Fits none (inputsJudged i)
+unfolding inputsJudged
+inputs-fit i h k =
+    leap-fits (i .leap)
+    and series-fits (sun i) h
+    and series-fits (moon i) k
+    and test (anyEarly (i .leap) (listedMarks (sun i)) || anyEarly (i .leap) (listedMarks (moon i))) 7 tt

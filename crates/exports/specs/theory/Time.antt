@@ -1,0 +1,48 @@
+-- Days, dates and the clock: the numbers of their answers and refusals fit a word. Assumes nothing.
+use mathlib.Core.Bool.{not, _&&_}
+use mathlib.Core.List.{List}
+use native.Mathlib.Omega.{arith}
+use lib.IntN.{ℤ}
+use Rattle.whole.specs.Floor.{floorMod-lt}
+use Rattle.times.specs.declared.Day.{Day}
+use Rattle.times.specs.declared.Second.{Second}
+use Rattle.dates.specs.declared.Date.{Date}
+use Rattle.dates.specs.Calendar.{valid, dayNumber}
+use Rattle.dates.specs.Answers.{hasDate, dateOf, dayOf}
+use Rattle.clock.specs.Leap.{leapLawful}
+use Rattle.clock.specs.Clock.{utc8, convertible, early, shownIn, shownOfMilli, milliIn}
+use Rattle.clock.specs.Answers.{leapJudged, clockJudged, milliOf, dayOfSecond, shownOf}
+use Rattle.exports.specs.Fits.{Fits, none, shownSize, answer, test, _and_}
+
+-- ---- days and dates
+pub date-fits : (n : Day) → Fits none (dateOf n)
+unfolding dateOf
+date-fits n = test (not (hasDate (n .0))) 6 tt and answer (omega arith)
+
+pub day-fits : (d : Date) → Fits none (dayOf d)
+unfolding dayOf
+day-fits d = test (not (valid d && hasDate (dayNumber d))) 6 tt and answer (omega arith)
+
+-- ---- the clock
+module _ (leap : List ℤ) where
+  pub leap-fits : Fits none (leapJudged leap)
+  unfolding leapJudged
+  leap-fits = test (not (leapLawful leap)) 1 tt
+
+  module _ (s : Second) where
+    clock-fits : Fits none (clockJudged leap s)
+    unfolding clockJudged
+    clock-fits = leap-fits and test (not (convertible s)) 6 tt and test (early leap s) 7 tt
+
+    pub milli-fits : Fits none (milliOf leap s)
+    unfolding milliOf
+    milli-fits = clock-fits and answer (omega arith)
+
+    pub day-of-second-fits : Fits none (dayOfSecond leap s)
+    unfolding dayOfSecond
+    day-of-second-fits = clock-fits and answer (omega arith)
+
+    -- the millisecond of the day, and what is read off it, is less than a day
+    pub shown-fits : Fits shownSize (shownOf leap s)
+    unfolding shownOf shownIn shownOfMilli
+    shown-fits = clock-fits and answer (omega (arith, floorMod-lt (milliIn leap s utc8 .0) 86400000 (omega arith)))

@@ -1,0 +1,100 @@
+// Series and marks, and the inputs of a build.
+use crate::record;
+use series::Body;
+use times::Second;
+ghost use mathlib.Core.Path.{_≡_};
+ghost use lib.ListN.{length};
+ghost use Rattle.refusals.specs.Lent.{writtenInto};
+ghost use Rattle.series.specs.Series.{series};
+ghost use Rattle.series.specs.Acceptance.{seriesJudged, valueOf};
+ghost use Rattle.marks.specs.Answers.{countedMarks, listedInto, wordsListed};
+ghost use Rattle.inputs.specs.Inputs.{inputs, inputsJudged};
+ghost use Rattle.exports.specs.Record.{numberOf, recordOf, noNumbers, valueNumbers, countNumbers, bodyOf};
+
+// Which body a flag says.
+fn body_of(moon: bool) -> Body
+    ensures { λ r. ⌜ r ≡ bodyOf moon ⌝ }
+{
+    if moon { Body::Moon } else { Body::Sun }
+}
+
+// Whether a series is accepted.
+#[no_mangle]
+pub extern "C" fn hzk_accept(moon: bool, start: i64, coefs: &[i64], answer: &mut [i64; 9]) -> i64
+    ensures { λ r. ⌜ r ≡ numberOf (seriesJudged (series (bodyOf moon) start (now (coefs .entry)))) ⌝ }
+    ensures { λ r. ⌜ now (answer .exit) ≡ recordOf (seriesJudged (series (bodyOf moon) start (now (coefs .entry)))) noNumbers ⌝ }
+{
+    record::tell(
+        record::check_record(series::accept(body_of(moon), Second(start), coefs)),
+        answer,
+    )
+}
+
+// The value of a series at a second.
+#[no_mangle]
+pub extern "C" fn hzk_value_at(
+    moon: bool,
+    start: i64,
+    coefs: &[i64],
+    second: i64,
+    answer: &mut [i64; 9],
+) -> i64
+    ensures { λ r. ⌜ r ≡ numberOf (valueOf (series (bodyOf moon) start (now (coefs .entry))) second) ⌝ }
+    ensures { λ r. ⌜ now (answer .exit) ≡ recordOf (valueOf (series (bodyOf moon) start (now (coefs .entry))) second) valueNumbers ⌝ }
+{
+    record::tell(
+        record::value_record(series::value_at(body_of(moon), Second(start), coefs, Second(second))),
+        answer,
+    )
+}
+
+// How many marks a series lists.
+#[no_mangle]
+pub extern "C" fn hzk_count_marks(
+    moon: bool,
+    start: i64,
+    coefs: &[i64],
+    answer: &mut [i64; 9],
+) -> i64
+    ensures { λ r. ⌜ r ≡ numberOf (countedMarks (series (bodyOf moon) start (now (coefs .entry)))) ⌝ }
+    ensures { λ r. ⌜ now (answer .exit) ≡ recordOf (countedMarks (series (bodyOf moon) start (now (coefs .entry)))) countNumbers ⌝ }
+{
+    record::tell(
+        record::count_record(marks::count_marks(body_of(moon), Second(start), coefs)),
+        answer,
+    )
+}
+
+// Every mark of a series, into lent words.
+#[no_mangle]
+pub extern "C" fn hzk_list_marks(
+    moon: bool,
+    start: i64,
+    coefs: &[i64],
+    marks: &mut [i64],
+    answer: &mut [i64; 9],
+) -> i64
+    ensures { λ r. ⌜ r ≡ numberOf (listedInto (series (bodyOf moon) start (now (coefs .entry))) (length (now (marks .entry)))) ⌝ }
+    ensures { λ r. ⌜ now (answer .exit) ≡ recordOf (listedInto (series (bodyOf moon) start (now (coefs .entry))) (length (now (marks .entry)))) countNumbers ⌝ }
+    ensures { λ r. ⌜ now (marks .exit) ≡ writtenInto (listedInto (series (bodyOf moon) start (now (coefs .entry))) (length (now (marks .entry)))) (wordsListed (series (bodyOf moon) start (now (coefs .entry)))) (now (marks .entry)) ⌝ }
+{
+    let listed = marks::list_marks(body_of(moon), Second(start), coefs, marks);
+    record::tell(record::list_record(listed), answer)
+}
+
+// Whether a build takes its inputs.
+#[no_mangle]
+pub extern "C" fn hzk_judge_inputs(
+    leap: &[i64],
+    sunstart: i64,
+    sun: &[i64],
+    moonstart: i64,
+    moon: &[i64],
+    answer: &mut [i64; 9],
+) -> i64
+    ensures { λ r. ⌜ r ≡ numberOf (inputsJudged (inputs (now (leap .entry)) sunstart (now (sun .entry)) moonstart (now (moon .entry)))) ⌝ }
+    ensures { λ r. ⌜ now (answer .exit) ≡ recordOf (inputsJudged (inputs (now (leap .entry)) sunstart (now (sun .entry)) moonstart (now (moon .entry)))) noNumbers ⌝ }
+{
+    let judged = inputs::judge(leap, Second(sunstart), sun, Second(moonstart), moon);
+    record::tell(record::check_record(judged), answer)
+}

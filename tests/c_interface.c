@@ -1,0 +1,423 @@
+/* Calls every function of include/hazomekyu.h from C and compares the number, the whole record and every lent place with what is written down here: document 01's
+   examples, both sides of its bounds, and real series, reckoned by bench/reference.py, tests/sui_real.py and tests/build_cases.py, which share no code with the
+   library. Prints what differs and a last line "N checks, M failed". Arguments: the folder of the series (crates/build_cases/data), and the almanac file that
+   tests/build_cases.py made of its `sample`. tests/c_interface builds and runs it. */
+#include <stdio.h>
+#include <string.h>
+
+#include "hazomekyu.h"
+
+#define COUNT(array) (sizeof(array) / sizeof(array)[0])
+/* a list as two arguments: pointer and number of words */
+#define LIST(...) (const int64_t[]){__VA_ARGS__}, COUNT(((const int64_t[]){__VA_ARGS__}))
+#define NO_WORDS (const int64_t[]){0}, 0
+#define SEGMENT(c0, c1, c2) c0, c1, c2, 0, 0, 0, 0, 0, 0, 0, 0, 0, 0, 0
+
+static int checks, failed;
+
+static void check(const char *what, bool holds) {
+    checks++;
+    if (holds) return;
+    failed++;
+    printf("differs: %s\n", what);
+}
+
+/* ---- the record, between two words that no call may touch; before a call all of it holds what no call may leave there */
+#define UNTOUCHED 0x5A5A5A5A5A5A5A5A
+
+static struct { int64_t before; hzk_answer answer; int64_t behind; } told;
+static bool seen[14];
+
+static hzk_answer *fresh(void) {
+    told.before = told.behind = told.answer.number = told.answer.segment = UNTOUCHED;
+    for (size_t i = 0; i < COUNT(told.answer.value); i++) told.answer.value[i] = UNTOUCHED;
+    return &told.answer;
+}
+
+#define ANSWERED(...) ((hzk_answer){0, 0, {__VA_ARGS__}})
+#define ACCEPTED ANSWERED(0)
+#define REFUSED(number) REFUSED_AT(number, 0)
+#define REFUSED_AT(number, segment) ((hzk_answer){number, segment, {0}})
+
+static void expect(const char *what, int64_t returned, hzk_answer wanted) {
+    bool same = returned == wanted.number && told.answer.number == wanted.number && told.answer.segment == wanted.segment;
+    for (size_t i = 0; i < COUNT(wanted.value); i++) same = same && told.answer.value[i] == wanted.value[i];
+    check(what, same && told.before == UNTOUCHED && told.behind == UNTOUCHED);
+    seen[wanted.number] = true;
+}
+
+/* ---- lent lists, and a lent file: what lies outside of what is to be written must stay as it was, the word or byte before the room and those behind it too */
+typedef struct { int64_t words[400]; } list;
+static list first_list, second_list, third_list;
+
+static int64_t *lend(list *l) {
+    for (size_t i = 0; i < COUNT(l->words); i++) l->words[i] = UNTOUCHED;
+    return l->words + 1;
+}
+
+static void holds(const char *what, const list *l, const int64_t *wanted, size_t n) {
+    bool same = true;
+    for (size_t i = 0; i < COUNT(l->words); i++) same = same && l->words[i] == (0 < i && i <= n ? wanted[i - 1] : UNTOUCHED);
+    check(what, same);
+}
+
+static void untouched(const char *what, const list *l) {
+    holds(what, l, NULL, 0);
+}
+
+static uint8_t file[16200];
+
+static uint8_t *lend_file(void) {
+    memset(file, 0x5A, sizeof file);
+    return file + 1;
+}
+
+static void file_holds(const char *what, const uint8_t *wanted, size_t n) {
+    bool same = true;
+    for (size_t i = 0; i < sizeof file; i++) same = same && file[i] == (0 < i && i <= n ? wanted[i - 1] : 0x5A);
+    check(what, same);
+}
+
+/* ---- days and dates */
+static void dates(void) {
+    expect("date of -10227", hzk_date_of(-10227, fresh()), ANSWERED(1972, 1, 1));
+    expect("date of 59", hzk_date_of(59, fresh()), ANSWERED(2000, 2, 29));
+    expect("date of 8846", hzk_date_of(8846, fresh()), ANSWERED(2024, 3, 21));
+    expect("date of -1", hzk_date_of(-1, fresh()), ANSWERED(1999, 12, 31));
+    expect("date of the first day", hzk_date_of(-150000, fresh()), ANSWERED(1589, 4, 25));
+    expect("date of the last day", hzk_date_of(200000, fresh()), ANSWERED(2547, 8, 1));
+    expect("date before the first day", hzk_date_of(-150001, fresh()), REFUSED(6));
+    expect("date behind the last day", hzk_date_of(200001, fresh()), REFUSED(6));
+    expect("date of the least number", hzk_date_of(INT64_MIN, fresh()), REFUSED(6));
+    expect("date of the largest number", hzk_date_of(INT64_MAX, fresh()), REFUSED(6));
+
+    expect("day of 1972-01-01", hzk_day_of(1972, 1, 1, fresh()), ANSWERED(-10227));
+    expect("day of 2000-02-29", hzk_day_of(2000, 2, 29, fresh()), ANSWERED(59));
+    expect("day of 2024-03-21", hzk_day_of(2024, 3, 21, fresh()), ANSWERED(8846));
+    expect("day of 1589-04-25", hzk_day_of(1589, 4, 25, fresh()), ANSWERED(-150000));
+    expect("day of 2547-08-01", hzk_day_of(2547, 8, 1, fresh()), ANSWERED(200000));
+    expect("day of 1589-04-24", hzk_day_of(1589, 4, 24, fresh()), REFUSED(6));
+    expect("day of 2547-08-02", hzk_day_of(2547, 8, 2, fresh()), REFUSED(6));
+    expect("day of 1900-02-29", hzk_day_of(1900, 2, 29, fresh()), REFUSED(6));
+    expect("day of a month 13", hzk_day_of(2000, 13, 1, fresh()), REFUSED(6));
+    expect("day of a day 0", hzk_day_of(2000, 1, 0, fresh()), REFUSED(6));
+    expect("day of the least year", hzk_day_of(INT64_MIN, 1, 1, fresh()), REFUSED(6));
+    expect("day of the largest numbers", hzk_day_of(INT64_MAX, INT64_MAX, INT64_MAX, fresh()), REFUSED(6));
+}
+
+/* ---- the clock: document 01's solstice, and a table that begins 365 days before day 0, at 86,400 x -365 + 32 s of TAI */
+static void clocks(void) {
+    static int64_t table[130];
+    for (int64_t i = 0; i < 65; i++) table[2 * i] = 100 * i, table[2 * i + 1] = 10 + i;
+    expect("leap table of one entry", hzk_judge_leap_table(LIST(-365, 32), fresh()), ACCEPTED);
+    expect("leap table of 64 entries", hzk_judge_leap_table(table, 128, fresh()), ACCEPTED);
+    expect("leap table of 65 entries", hzk_judge_leap_table(table, 130, fresh()), REFUSED(1));
+    expect("leap table of no entry", hzk_judge_leap_table(NO_WORDS, fresh()), REFUSED(1));
+    expect("leap table of three words", hzk_judge_leap_table(LIST(-365, 32, 0), fresh()), REFUSED(1));
+    expect("leap table with an offset again", hzk_judge_leap_table(LIST(-365, 32, 0, 32), fresh()), REFUSED(1));
+    expect("leap table with a day again", hzk_judge_leap_table(LIST(-365, 32, -365, 33), fresh()), REFUSED(1));
+    expect("leap table of the first day", hzk_judge_leap_table(LIST(-120000, 0), fresh()), ACCEPTED);
+    expect("leap table before the first day", hzk_judge_leap_table(LIST(-120001, 0), fresh()), REFUSED(1));
+    expect("leap table of offset 1000", hzk_judge_leap_table(LIST(0, 1000), fresh()), ACCEPTED);
+    expect("leap table of offset 1001", hzk_judge_leap_table(LIST(0, 1001), fresh()), REFUSED(1));
+
+    expect("millisecond of the solstice", hzk_milli_of(LIST(-365, 32), -836107, fresh()), ANSWERED(-807371184));
+    expect("millisecond of the first second", hzk_milli_of(LIST(-365, 32), -31535935, fresh()), ANSWERED(-31507199184));
+    expect("millisecond before the first entry", hzk_milli_of(LIST(-365, 32), -31535936, fresh()), REFUSED(7));
+    expect("millisecond of the last second", hzk_milli_of(LIST(-365, 32), 16000000000, fresh()), ANSWERED(16000028735816));
+    expect("millisecond behind the last second", hzk_milli_of(LIST(-365, 32), 16000000001, fresh()), REFUSED(6));
+    expect("millisecond before the range, 6 before 7", hzk_milli_of(LIST(-365, 32), -10000000001, fresh()), REFUSED(6));
+    expect("millisecond by no table, 1 before 6", hzk_milli_of(NO_WORDS, INT64_MIN, fresh()), REFUSED(1));
+
+    expect("day of the solstice", hzk_day_of_second(LIST(-365, 32), -836107, fresh()), ANSWERED(-10));
+    expect("day before the first entry", hzk_day_of_second(LIST(-365, 32), -31535936, fresh()), REFUSED(7));
+    expect("day of the largest second", hzk_day_of_second(LIST(-365, 32), INT64_MAX, fresh()), REFUSED(6));
+    expect("day by three words", hzk_day_of_second(LIST(-365, 32, 1), 0, fresh()), REFUSED(1));
+
+    expect("day of millisecond 0", hzk_day_of_milli(0, fresh()), ANSWERED(0));
+    expect("day of millisecond -1", hzk_day_of_milli(-1, fresh()), ANSWERED(-1));
+    expect("day of the last millisecond of a day", hzk_day_of_milli(86399999, fresh()), ANSWERED(0));
+    expect("day of the next", hzk_day_of_milli(86400000, fresh()), ANSWERED(1));
+    expect("day of the least millisecond", hzk_day_of_milli(INT64_MIN, fresh()), ANSWERED(-106751991168));
+    expect("day of the largest millisecond", hzk_day_of_milli(INT64_MAX, fresh()), ANSWERED(106751991167));
+
+    expect("the solstice shown", hzk_shown(LIST(-365, 32), -836107, fresh()), ANSWERED(1999, 12, 22, 15, 43, 48, 816));
+    expect("a mark of the worked listing shown", hzk_shown(LIST(-365, 32), 2700000, fresh()), ANSWERED(2000, 2, 1, 13, 58, 55, 816));
+    expect("shown before the first entry", hzk_shown(LIST(-365, 32), -31535936, fresh()), REFUSED(7));
+    expect("shown behind the last second", hzk_shown(LIST(-365, 32), 16000000001, fresh()), REFUSED(6));
+    expect("shown by no table", hzk_shown(NO_WORDS, 0, fresh()), REFUSED(1));
+}
+
+/* ---- series and marks: document 01's Sun and Moon */
+#define SUN SEGMENT(552960000, 552960000, 0)
+#define MOON SEGMENT(4103999999, 864000000, 0)
+
+static void series(void) {
+    expect("the worked Sun", hzk_accept(HZK_SUN, 0, LIST(SUN), fresh()), ACCEPTED);
+    expect("the worked Moon", hzk_accept(HZK_MOON, 0, LIST(MOON), fresh()), ACCEPTED);
+    expect("no segment", hzk_accept(HZK_SUN, 0, NO_WORDS, fresh()), REFUSED(2));
+    expect("a word more", hzk_accept(HZK_SUN, 0, LIST(SUN, 0), fresh()), REFUSED(2));
+    expect("the last start", hzk_accept(HZK_SUN, 10000000000, LIST(SUN), fresh()), ACCEPTED);
+    expect("behind the last start", hzk_accept(HZK_SUN, 10000000001, LIST(SUN), fresh()), REFUSED(2));
+    expect("the least start", hzk_accept(HZK_MOON, INT64_MIN, LIST(MOON), fresh()), REFUSED(2));
+    expect("a coefficient out of range", hzk_accept(HZK_SUN, 0, LIST(SEGMENT(0, 4000000001, 0)), fresh()), REFUSED(3));
+    expect("the least coefficient", hzk_accept(HZK_MOON, 0, LIST(MOON, SEGMENT(0, 20000000, INT64_MIN)), fresh()), REFUSED_AT(3, 1));
+    expect("just fast enough", hzk_accept(HZK_SUN, 0, LIST(SEGMENT(0, 138240000, 0)), fresh()), ACCEPTED);
+    expect("too slow", hzk_accept(HZK_SUN, 0, LIST(SEGMENT(0, 138239999, 0)), fresh()), REFUSED(4));
+    expect("the Moon just fast enough", hzk_accept(HZK_MOON, 0, LIST(SEGMENT(0, 17280000, 0)), fresh()), ACCEPTED);
+    expect("the Moon too slow", hzk_accept(HZK_MOON, 0, LIST(SEGMENT(0, 17279999, 0)), fresh()), REFUSED(4));
+    expect("the second too slow", hzk_accept(HZK_SUN, 0, LIST(SUN, SEGMENT(1658880000, 138239999, 0)), fresh()), REFUSED_AT(4, 1));
+    expect("3 of a later one before 4", hzk_accept(HZK_SUN, 0, LIST(SEGMENT(0, 1, 0), SEGMENT(0, 4000000001, 0)), fresh()), REFUSED_AT(3, 1));
+    expect("a joint of 400", hzk_accept(HZK_SUN, 0, LIST(SUN, SEGMENT(1658880000, 552960000, 0)), fresh()), ACCEPTED);
+    expect("a joint of 200", hzk_accept(HZK_SUN, 0, LIST(SUN, SEGMENT(1658879800, 552960000, 0)), fresh()), ACCEPTED);
+    expect("a joint of 199", hzk_accept(HZK_SUN, 0, LIST(SUN, SEGMENT(1658879799, 552960000, 0)), fresh()), REFUSED_AT(5, 1));
+
+    expect("value at 0", hzk_value_at(HZK_SUN, 0, LIST(SUN), 0, fresh()), ANSWERED(0));
+    expect("value at 1350000", hzk_value_at(HZK_SUN, 0, LIST(SUN), 1350000, fresh()), ANSWERED(540000000));
+    expect("value with c2 at 0", hzk_value_at(HZK_SUN, 0, LIST(SEGMENT(552960000, 552960000, 1000)), 0, fresh()), ANSWERED(1000));
+    expect("value with c2 in the middle", hzk_value_at(HZK_SUN, 0, LIST(SEGMENT(552960000, 552960000, 1000)), 1382400, fresh()), ANSWERED(552959000));
+    expect("value of the Moon in the middle", hzk_value_at(HZK_MOON, 0, LIST(MOON), 172800, fresh()), ANSWERED(4103999999));
+    expect("value at the last second", hzk_value_at(HZK_SUN, 0, LIST(SUN), 2764799, fresh()), ANSWERED(1105919600));
+    expect("value behind it", hzk_value_at(HZK_SUN, 0, LIST(SUN), 2764800, fresh()), REFUSED(6));
+    expect("value before the start", hzk_value_at(HZK_SUN, 0, LIST(SUN), -1, fresh()), REFUSED(6));
+    expect("value of a bad series, 4 before 6", hzk_value_at(HZK_SUN, 0, LIST(SEGMENT(0, 138239999, 0)), -1, fresh()), REFUSED(4));
+
+    expect("marks of the Sun", hzk_count_marks(HZK_SUN, 0, LIST(SUN), fresh()), ANSWERED(2));
+    expect("marks of the Moon", hzk_count_marks(HZK_MOON, 0, LIST(MOON), fresh()), ANSWERED(1));
+    expect("no mark", hzk_count_marks(HZK_SUN, 0, LIST(SEGMENT(200000000, 139000000, 0)), fresh()), ANSWERED(0));
+    expect("marks of no segment", hzk_count_marks(HZK_SUN, 0, NO_WORDS, fresh()), REFUSED(2));
+    expect("marks of a bad joint", hzk_count_marks(HZK_MOON, 0, LIST(SEGMENT(0, 20000000, 0), SEGMENT(39999883, 20000000, 0)), fresh()), REFUSED_AT(5, 1));
+
+    expect("list of the Sun", hzk_list_marks(HZK_SUN, 0, LIST(SUN), lend(&first_list), 4, fresh()), ANSWERED(2));
+    holds("its words", &first_list, LIST(1, 1350000, 2, 2700000));
+    expect("list with more room", hzk_list_marks(HZK_SUN, 0, LIST(SUN), lend(&first_list), 7, fresh()), ANSWERED(2));
+    holds("its words, and no more", &first_list, LIST(1, 1350000, 2, 2700000));
+    expect("list of the Moon", hzk_list_marks(HZK_MOON, 0, LIST(MOON), lend(&first_list), 2, fresh()), ANSWERED(1));
+    holds("its word", &first_list, LIST(1, 1));
+    expect("an empty list in no room", hzk_list_marks(HZK_SUN, 0, LIST(SEGMENT(200000000, 139000000, 0)), lend(&first_list), 0, fresh()), ANSWERED(0));
+    untouched("nothing of it", &first_list);
+    expect("list in a word less", hzk_list_marks(HZK_SUN, 0, LIST(SUN), lend(&first_list), 3, fresh()), REFUSED(12));
+    untouched("nothing listed", &first_list);
+    expect("list of a bad series, 3 before 12", hzk_list_marks(HZK_SUN, 0, LIST(SUN, SEGMENT(0, 4000000001, 0)), lend(&first_list), 0, fresh()), REFUSED_AT(3, 1));
+    untouched("nothing of a bad series", &first_list);
+
+    expect("the worked inputs", hzk_judge_inputs(LIST(-365, 32), 0, LIST(SUN), 0, LIST(MOON), fresh()), ACCEPTED);
+    expect("inputs without a table, 1 before 3", hzk_judge_inputs(NO_WORDS, 0, LIST(SEGMENT(0, 4000000001, 0)), 0, LIST(MOON), fresh()), REFUSED(1));
+    expect("a slow Sun before a bad Moon", hzk_judge_inputs(LIST(-365, 32), 0, LIST(SEGMENT(0, 138239999, 0)), 0, NO_WORDS, fresh()), REFUSED(4));
+    expect("a Moon without segments", hzk_judge_inputs(LIST(-365, 32), 0, LIST(SUN), 0, NO_WORDS, fresh()), REFUSED(2));
+    expect("a Moon that starts too late", hzk_judge_inputs(LIST(-365, 32), 0, LIST(SUN), 10000000001, LIST(MOON), fresh()), REFUSED(2));
+    expect("a bad joint of the Moon before 7", hzk_judge_inputs(LIST(20, 32), 0, LIST(SUN), 0, LIST(SEGMENT(0, 20000000, 0), SEGMENT(39999883, 20000000, 0)), fresh()), REFUSED_AT(5, 1));
+    expect("the Sun's first mark too early", hzk_judge_inputs(LIST(20, 32), 0, LIST(SUN), 5000000, LIST(MOON), fresh()), REFUSED(7));
+    expect("the Moon's first mark too early", hzk_judge_inputs(LIST(10, 32), 0, LIST(SUN), 0, LIST(MOON), fresh()), REFUSED(7));
+}
+
+/* ---- months by days: document 01's three lists. 11 is never given: of thirteen months one has no zhongqi (`thirteen-have-one-without`). */
+#define NEW_MOONS 0, 30, 59, 89, 118, 148, 177, 207, 236, 266, 295, 325, 354, 384, 413
+#define ZHONGQI_LEAP 20, 50, 81, 111, 142, 172, 203, 233, 264, 294, 324, 355, 385
+#define ZHONGQI_PLAIN 2, 30, 58, 88, 119, 149, 180, 211, 242, 273, 303, 333, 363
+/* of year 2001: the months that all three have in common, and those of the third */
+#define FIRST_TEN 64054, 0, 30, 64056, 30, 29, 64034, 59, 30, 64036, 89, 29, 64038, 118, 30, 64040, 148, 29, 64042, 177, 30, 64044, 207, 29, 64046, 236, 30, 64048, 266, 29
+#define PLAIN_MONTHS FIRST_TEN, 64050, 295, 30, 64052, 325, 29
+
+static void months(void) {
+    expect("leap 9", hzk_months_of(2001, LIST(NEW_MOONS), LIST(ZHONGQI_LEAP), lend(&first_list), 39, fresh()), ANSWERED(13));
+    holds("its months", &first_list, LIST(FIRST_TEN, 64050, 295, 30, 64051, 325, 29, 64052, 354, 30));
+    expect("leap 8", hzk_months_of(2001, LIST(NEW_MOONS), LIST(20, 50, 81, 111, 142, 172, 203, 233, 264, 294, 325, 355, 385), lend(&first_list), 60, fresh()), ANSWERED(13));
+    holds("its months", &first_list, LIST(FIRST_TEN, 64049, 295, 30, 64050, 325, 29, 64052, 354, 30));
+    expect("no leap", hzk_months_of(2001, LIST(NEW_MOONS), LIST(ZHONGQI_PLAIN), lend(&first_list), 36, fresh()), ANSWERED(12));
+    holds("its months", &first_list, LIST(PLAIN_MONTHS));
+    expect("13 months in 38 words", hzk_months_of(2001, LIST(NEW_MOONS), LIST(ZHONGQI_LEAP), lend(&first_list), 38, fresh()), REFUSED(12));
+    untouched("nothing stored", &first_list);
+    expect("12 months in 35 words", hzk_months_of(2001, LIST(NEW_MOONS), LIST(ZHONGQI_PLAIN), lend(&first_list), 35, fresh()), REFUSED(12));
+    untouched("nothing stored", &first_list);
+    expect("the first year", hzk_months_of(1700, LIST(NEW_MOONS), LIST(ZHONGQI_PLAIN), lend(&first_list), 36, fresh()), ANSWERED(12));
+    expect("the year before", hzk_months_of(1699, LIST(NEW_MOONS), LIST(ZHONGQI_PLAIN), lend(&first_list), 36, fresh()), REFUSED(8));
+    untouched("nothing stored", &first_list);
+    expect("the year 2501", hzk_months_of(2501, LIST(NEW_MOONS), LIST(ZHONGQI_PLAIN), lend(&first_list), 36, fresh()), REFUSED(8));
+    expect("the least year", hzk_months_of(INT64_MIN, LIST(NEW_MOONS), LIST(ZHONGQI_PLAIN), lend(&first_list), 36, fresh()), REFUSED(8));
+    expect("no new moon", hzk_months_of(2001, NO_WORDS, LIST(ZHONGQI_PLAIN), lend(&first_list), 36, fresh()), REFUSED(8));
+    expect("no new moon behind the second solstice", hzk_months_of(2001, LIST(0, 30, 59, 89, 118, 148, 177, 207, 236, 266, 295, 325, 354), LIST(ZHONGQI_PLAIN), lend(&first_list), 36, fresh()), REFUSED(8));
+    expect("new moons that do not rise", hzk_months_of(2001, LIST(0, 30, 30, 59), LIST(ZHONGQI_PLAIN), lend(&first_list), 36, fresh()), REFUSED(8));
+    expect("twelve zhongqi", hzk_months_of(2001, LIST(NEW_MOONS), LIST(2, 30, 58, 88, 119, 149, 180, 211, 242, 273, 303, 333), lend(&first_list), 36, fresh()), REFUSED(8));
+    expect("both solstices in one month, 9 before 12", hzk_months_of(2001, LIST(0, 30), LIST(1, 2, 3, 4, 5, 6, 7, 8, 9, 10, 11, 12, 13), lend(&first_list), 0, fresh()), REFUSED(9));
+    expect("a month of 28 days", hzk_months_of(2001, LIST(0, 28, 59, 89, 118, 148, 177, 207, 236, 266, 295, 325, 354, 384), LIST(ZHONGQI_PLAIN), lend(&first_list), 36, fresh()), REFUSED(10));
+    untouched("nothing stored", &first_list);
+}
+
+/* ---- the almanac file: one leap entry and the sui of 2001 without a leap month, 133 bytes */
+#define LEAP -365, 32
+static const uint8_t smallest[133] = {
+    1, 0, 0, 0, 0x93, 0xFE, 0xFF, 0xFF, 32, 0, 0, 0, /* one entry: day -365, offset 32 */
+    1, 0, 0, 0, 0xD1, 7, 0, 0, 12, /* one sui: 2001, 12 months */
+    12, 0, 0, 0, /* twelve months: handle, first day, length */
+    0x36, 0xFA, 0, 0, 0, 0, 0, 0, 30, 0x38, 0xFA, 0, 0, 30, 0, 0, 0, 29, 0x22, 0xFA, 0, 0, 59, 0, 0, 0, 30, 0x24, 0xFA, 0, 0, 89, 0, 0, 0, 29,
+    0x26, 0xFA, 0, 0, 118, 0, 0, 0, 30, 0x28, 0xFA, 0, 0, 148, 0, 0, 0, 29, 0x2A, 0xFA, 0, 0, 177, 0, 0, 0, 30, 0x2C, 0xFA, 0, 0, 207, 0, 0, 0, 29,
+    0x2E, 0xFA, 0, 0, 236, 0, 0, 0, 30, 0x30, 0xFA, 0, 0, 10, 1, 0, 0, 29, 0x32, 0xFA, 0, 0, 39, 1, 0, 0, 30, 0x34, 0xFA, 0, 0, 69, 1, 0, 0, 29,
+};
+
+static void spoilt(const char *what, size_t place, uint8_t byte) {
+    uint8_t copy[133];
+    memcpy(copy, smallest, sizeof copy);
+    copy[place] = byte;
+    expect(what, hzk_check_file(copy, sizeof copy, fresh()), REFUSED(13));
+}
+
+static void almanac(void) {
+    expect("check the smallest file", hzk_check_file(smallest, 133, fresh()), ANSWERED(1, 1, 12));
+    expect("check no byte", hzk_check_file(smallest, 0, fresh()), REFUSED(13));
+    expect("check a byte less", hzk_check_file(smallest, 132, fresh()), REFUSED(13));
+    spoilt("a file of two entries", 0, 2);
+    spoilt("a count of months that would overflow", 24, 0xFF);
+    spoilt("an offset past its range", 10, 1);
+    spoilt("a year before 1700", 17, 5);
+    spoilt("a sui of 13 months", 20, 13);
+    spoilt("a month of 31 days", 33, 31);
+    spoilt("a gap between months", 42, 30);
+    spoilt("another handle", 34, 0x3A);
+
+    expect("read it", hzk_read_file(smallest, 133, lend(&first_list), 2, lend(&second_list), 2, lend(&third_list), 36, fresh()), ANSWERED(1, 1, 12));
+    holds("its leap table", &first_list, LIST(LEAP));
+    holds("its suis", &second_list, LIST(2001, 12));
+    holds("its months", &third_list, LIST(PLAIN_MONTHS));
+    expect("read into more room", hzk_read_file(smallest, 133, lend(&first_list), 9, lend(&second_list), 9, lend(&third_list), 99, fresh()), ANSWERED(1, 1, 12));
+    holds("its leap table, and no more", &first_list, LIST(LEAP));
+    holds("its suis, and no more", &second_list, LIST(2001, 12));
+    holds("its months, and no more", &third_list, LIST(PLAIN_MONTHS));
+    static const size_t short_rooms[4][3] = {{1, 2, 36}, {2, 1, 36}, {2, 2, 35}, {0, 0, 0}};
+    for (size_t i = 0; i < COUNT(short_rooms); i++) {
+        const size_t *room = short_rooms[i];
+        expect("read into less room", hzk_read_file(smallest, 133, lend(&first_list), room[0], lend(&second_list), room[1], lend(&third_list), room[2], fresh()), REFUSED(12));
+        untouched("no leap table", &first_list);
+        untouched("no sui", &second_list);
+        untouched("no month", &third_list);
+    }
+    expect("read a byte less, 13 before 12", hzk_read_file(smallest, 132, lend(&first_list), 0, lend(&second_list), 0, lend(&third_list), 0, fresh()), REFUSED(13));
+    untouched("nothing read", &third_list);
+
+    expect("write it", hzk_write_file(LIST(LEAP), LIST(2001, 12), LIST(PLAIN_MONTHS), lend_file(), 133, fresh()), ANSWERED(133));
+    file_holds("its bytes", smallest, 133);
+    expect("write it into more room", hzk_write_file(LIST(LEAP), LIST(2001, 12), LIST(PLAIN_MONTHS), lend_file(), 200, fresh()), ANSWERED(133));
+    file_holds("its bytes, and no more", smallest, 133);
+    expect("write it into a byte less", hzk_write_file(LIST(LEAP), LIST(2001, 12), LIST(PLAIN_MONTHS), lend_file(), 132, fresh()), REFUSED(12));
+    file_holds("nothing written", NULL, 0);
+    expect("write without a leap table, 13 before 12", hzk_write_file(NO_WORDS, LIST(2001, 12), LIST(PLAIN_MONTHS), lend_file(), 0, fresh()), REFUSED(13));
+    expect("write a sui of 13 months that has 12", hzk_write_file(LIST(LEAP), LIST(2001, 13), LIST(PLAIN_MONTHS), lend_file(), 200, fresh()), REFUSED(13));
+    expect("write a year out of range", hzk_write_file(LIST(LEAP), LIST(INT64_MAX, 12), LIST(PLAIN_MONTHS), lend_file(), 200, fresh()), REFUSED(13));
+    expect("write a word less", hzk_write_file(LIST(LEAP), LIST(2001, 12), LIST(FIRST_TEN, 64050, 295, 30, 64052, 325), lend_file(), 200, fresh()), REFUSED(13));
+    file_holds("nothing written", NULL, 0);
+}
+
+/* ---- real series, and series made for a refusal: an input of the build program, taken apart */
+static int64_t given[50000];
+static struct { int64_t first, count, sun_start, moon_start; const int64_t *leap, *sun, *moon; size_t leap_words, sun_words, moon_words; } in;
+
+static void take(const char *folder, const char *name) {
+    char path[1000];
+    snprintf(path, sizeof path, "%s/%s", folder, name);
+    FILE *f = fopen(path, "rb");
+    size_t words = f ? fread(given, sizeof given[0], COUNT(given), f) : 0;
+    if (f) fclose(f);
+    check(path, words > 5);
+    if (words <= 5) return;
+    in.first = given[0], in.count = given[1];
+    in.leap = given + 3, in.leap_words = 2 * (size_t)given[2];
+    const int64_t *at = in.leap + in.leap_words;
+    in.sun_start = at[1], in.sun = at + 2, in.sun_words = 14 * (size_t)at[0];
+    at = in.sun + in.sun_words;
+    in.moon_start = at[1], in.moon = at + 2, in.moon_words = 14 * (size_t)at[0];
+    check(path, in.moon + in.moon_words == given + words);
+}
+
+#define SERIES in.leap, in.leap_words, in.sun_start, in.sun, in.sun_words, in.moon_start, in.moon, in.moon_words
+
+/* The list of marks: how many there are, the first, the last, and the sums of indices and seconds. */
+static void listed(const char *what, size_t n, int64_t index, int64_t second, int64_t last_index, int64_t last_second, int64_t indices, int64_t seconds) {
+    const int64_t *w = first_list.words + 1;
+    for (size_t i = 0; i < n; i++) indices -= w[2 * i], seconds -= w[2 * i + 1];
+    check(what, w[0] == index && w[1] == second && w[2 * n - 2] == last_index && w[2 * n - 1] == last_second && indices == 0 && seconds == 0);
+    check(what, w[-1] == UNTOUCHED && w[2 * n] == UNTOUCHED);
+}
+
+static void real(const char *folder, const char *almanac_file) {
+    take(folder, "real_2033");
+    expect("the real inputs", hzk_judge_inputs(SERIES, fresh()), ACCEPTED);
+    expect("value of the Sun before a mark", hzk_value_at(HZK_SUN, in.sun_start, in.sun, in.sun_words, 1044362564, fresh()), ANSWERED(439019999660));
+    expect("value of the Sun at it", hzk_value_at(HZK_SUN, in.sun_start, in.sun, in.sun_words, 1044362565, fresh()), ANSWERED(439020000083));
+    expect("value of the Moon before a mark", hzk_value_at(HZK_MOON, in.moon_start, in.moon, in.moon_words, 1040848824, fresh()), ANSWERED(5297399998176));
+    expect("value of the Moon at it", hzk_value_at(HZK_MOON, in.moon_start, in.moon, in.moon_words, 1040848825, fresh()), ANSWERED(5297400002692));
+    expect("value of the Moon at the end", hzk_value_at(HZK_MOON, in.moon_start, in.moon, in.moon_words, 1138060799, fresh()), ANSWERED(5791393138259));
+    expect("that mark of the Sun shown", hzk_shown(in.leap, in.leap_words, 1044362565, fresh()), ANSWERED(2033, 2, 3, 20, 41, 35, 816));
+    expect("its millisecond", hzk_milli_of(in.leap, in.leap_words, 1044362565, fresh()), ANSWERED(1044391295816));
+    expect("its day", hzk_day_of_second(in.leap, in.leap_words, 1044362565, fresh()), ANSWERED(12087));
+    expect("marks of the real Sun", hzk_count_marks(HZK_SUN, in.sun_start, in.sun, in.sun_words, fresh()), ANSWERED(78));
+    expect("list of the real Sun", hzk_list_marks(HZK_SUN, in.sun_start, in.sun, in.sun_words, lend(&first_list), 156, fresh()), ANSWERED(78));
+    listed("its marks", 78, 808, 1037989942, 885, 1139034066, 66027, 84902922432);
+    expect("list of the real Moon", hzk_list_marks(HZK_MOON, in.moon_start, in.moon, in.moon_words, lend(&first_list), 316, fresh()), ANSWERED(158));
+    listed("its marks", 158, 1630, 1037601795, 1787, 1137739654, 269943, 171859228526);
+
+    /* the sui of 2033 has a month without a zhongqi and is not leap; that of 2034 has leap 11 */
+    expect("sui 2033", hzk_sui(SERIES, 2033, lend(&first_list), 36, fresh()), ANSWERED(12));
+    holds("its months", &first_list, LIST(65078, 12025, 29, 65080, 12054, 30, 65058, 12084, 29, 65060, 12113, 30, 65062, 12143, 29, 65064, 12172, 29, 65066, 12201, 30, 65068, 12231, 29,
+        65070, 12260, 30, 65072, 12290, 29, 65074, 12319, 30, 65076, 12349, 30));
+    expect("sui 2034", hzk_sui(SERIES, 2034, lend(&first_list), 50, fresh()), ANSWERED(13));
+    holds("its months", &first_list, LIST(65110, 12379, 30, 65111, 12409, 29, 65112, 12438, 30, 65090, 12468, 29, 65092, 12497, 30, 65094, 12527, 29, 65096, 12556, 29, 65098, 12585, 30,
+        65100, 12615, 29, 65102, 12644, 30, 65104, 12674, 29, 65106, 12703, 30, 65108, 12733, 30));
+    expect("sui 2034 in 38 words", hzk_sui(SERIES, 2034, lend(&first_list), 38, fresh()), REFUSED(12));
+    untouched("nothing stored", &first_list);
+    expect("a sui without its first solstice, 8 before 12", hzk_sui(SERIES, 2032, lend(&first_list), 0, fresh()), REFUSED(8));
+    expect("a sui out of range", hzk_sui(SERIES, 2501, lend(&first_list), 39, fresh()), REFUSED(8));
+    expect("a sui without a leap table", hzk_sui(NO_WORDS, in.sun_start, in.sun, in.sun_words, in.moon_start, in.moon, in.moon_words, 2033, lend(&first_list), 39, fresh()), REFUSED(1));
+    expect("a sui of a Sun cut short", hzk_sui(in.leap, in.leap_words, in.sun_start, in.sun, in.sun_words - 1, in.moon_start, in.moon, in.moon_words, 2033, lend(&first_list), 39, fresh()), REFUSED(2));
+    expect("a sui before the first leap entry", hzk_sui(LIST(20000, 37), in.sun_start, in.sun, in.sun_words, in.moon_start, in.moon, in.moon_words, 2033, lend(&first_list), 39, fresh()), REFUSED(7));
+    untouched("nothing stored", &first_list);
+
+    expect("build three suis", hzk_build(SERIES, 2033, 3, lend_file(), 584, fresh()), ANSWERED(584));
+    expect("check them", hzk_check_file(file + 1, 584, fresh()), ANSWERED(28, 3, 37));
+    expect("build them into a byte less", hzk_build(SERIES, 2033, 3, lend_file(), 583, fresh()), REFUSED(12));
+    file_holds("nothing built", NULL, 0);
+    expect("build no sui", hzk_build(SERIES, 2033, 0, lend_file(), 584, fresh()), REFUSED(8));
+    expect("build 129 suis", hzk_build(SERIES, 2033, 129, lend_file(), 16140, fresh()), REFUSED(8));
+    expect("build a sui that has no solstice", hzk_build(SERIES, 2033, 4, lend_file(), 16140, fresh()), REFUSED(8));
+    expect("build from the largest year", hzk_build(SERIES, INT64_MAX, 128, lend_file(), 16140, fresh()), REFUSED(8));
+    expect("build without a leap table", hzk_build(NO_WORDS, in.sun_start, in.sun, in.sun_words, in.moon_start, in.moon, in.moon_words, 2033, 3, lend_file(), 584, fresh()), REFUSED(1));
+    expect("build with a bad joint", hzk_build(in.leap, in.leap_words, in.sun_start, in.sun, in.sun_words, 0, LIST(SEGMENT(0, 20000000, 0), SEGMENT(39999883, 20000000, 0)), 2033, 3, lend_file(), 584, fresh()), REFUSED_AT(5, 1));
+    file_holds("nothing built", NULL, 0);
+
+    take(folder, "r9");
+    expect("a sui of eleven months", hzk_sui(SERIES, 2000, lend(&first_list), 39, fresh()), REFUSED(9));
+    expect("build it", hzk_build(SERIES, 2000, 1, lend_file(), 16140, fresh()), REFUSED(9));
+    take(folder, "r10");
+    expect("a sui with a month of 31 days", hzk_sui(SERIES, 2000, lend(&first_list), 39, fresh()), REFUSED(10));
+    expect("build it", hzk_build(SERIES, 2000, 1, lend_file(), 16140, fresh()), REFUSED(10));
+    untouched("nothing stored", &first_list);
+    file_holds("nothing built", NULL, 0);
+
+    /* thirty years, byte for byte what tests/build_cases.py made of them */
+    static uint8_t wanted[16140];
+    FILE *f = fopen(almanac_file, "rb");
+    size_t bytes = f ? fread(wanted, 1, sizeof wanted, f) : 0;
+    if (f) fclose(f);
+    take(folder, "sample");
+    expect("2760 segments of the Moon", hzk_accept(HZK_MOON, in.moon_start, in.moon, in.moon_words, fresh()), ACCEPTED);
+    expect("too many of the Sun", hzk_accept(HZK_SUN, in.moon_start, in.moon, in.moon_words, fresh()), REFUSED(2));
+    expect("build thirty suis", hzk_build(SERIES, in.first, in.count, lend_file(), 16140, fresh()), ANSWERED(3725));
+    check("as many bytes as wanted", bytes == 3725);
+    file_holds("the bytes that are wanted", wanted, bytes);
+    expect("check them", hzk_check_file(wanted, bytes, fresh()), ANSWERED(28, 30, 371));
+}
+
+int main(int argc, char **argv) {
+    if (argc != 3) {
+        printf("usage: c_interface FOLDER ALMANAC\n");
+        return 2;
+    }
+    dates();
+    clocks();
+    series();
+    months();
+    almanac();
+    real(argv[1], argv[2]);
+    for (int n = 0; n < 14; n++) check("every number but 11 was given", seen[n] || n == 11);
+    printf("%d checks, %d failed\n", checks, failed);
+    return failed != 0;
+}
