@@ -46,16 +46,16 @@ sameLines [] (l ∷ ls) = false
 sameLines (k ∷ ks) [] = false
 sameLines (k ∷ ks) (l ∷ ls) = sameNumbers k l && sameLines ks ls
 
--- mark -1, at the second of document 01's starred example, and that example's table
+-- mark -1, in the last second of 1999
 abbrev minusOne : Mark
-minusOne = record { index = negsuc 0; second = negsuc 836106 }
+minusOne = record { index = negsuc 0; second = negsuc 28735 }
 
 abbrev table : List ℤ
 table = negsuc 364 ∷ pos 32 ∷ []
 
 -- a line of that second, by its letter and its index
 abbrev lineThen : ℕ → ℕ → List ℕ
-lineThen letter index = line letter index (date 1999 12 22) (time 15 43 48 816)
+lineThen letter index = line letter index (date 1999 12 31) (time 23 59 59 816)
 
 unfoldable pub examples : List Bool
 unfolding sectionEnd places lineOf listed listedWords listedBytes words inputsJudged leapJudged leapLawful wholePairs firstEntry nextEntry goodEntry every leapYear leapYearsTo newYear monthLengths yearOrNext yearOf monthsOver dateInYear dateFor floorDiv floorMod holdsFrom holds lastBelow entryUsed tai localMilli reading milliIn dayOfMilli shownOfMilli shownIn

@@ -181,8 +181,8 @@ examples =
     ∷ isRefused (suiAt (to2500 +ℤ pos 365) (pos 2501)) 8
     -- 1, the Sun's 4 and the Moon's 3 before 8
     ∷ isRefused (suiFor (inputs (pos 0 ∷ pos 1001 ∷ []) (pos 0) (one (pos 552960000)) (pos 0) (one (pos 864000000))) utc8 (pos 1699)) 1
-    ∷ isRefusedAt (suiFor (inputs table (pos 0) (one (pos 138239999)) (pos 0) (one (pos 4000000001))) utc8 (pos 1699)) 4 0
-    ∷ isRefusedAt (suiFor (inputs table (pos 0) (one (pos 552960000)) (pos 0) (one (pos 4000000001))) utc8 (pos 1699)) 3 0
+    ∷ isRefusedAt (suiFor (inputs table (pos 0) (one (pos 1)) (pos 0) (one (pos 5000000000))) utc8 (pos 1699)) 4 0
+    ∷ isRefusedAt (suiFor (inputs table (pos 0) (one (pos 552960000)) (pos 0) (one (pos 5000000000))) utc8 (pos 1699)) 3 0
     ∷ []
 
 pub examples-hold : T (all examples)
