@@ -4,7 +4,7 @@ use mathlib.Core.Bool.{Bool, true, false, cond, not, _&&_}
 use mathlib.Core.List.{List, [], _∷_, _++_}
 use Prim.Native.Nat.{ℕ, zero, suc, _+_, _-_}
 use lib.Dec.{T, eqb}
-use lib.IntN.{ℤ, pos, negsuc, _-ℤ_}
+use lib.IntN.{ℤ, pos, negsuc, _+ℤ_, _-ℤ_, _*ℤ_}
 use lib.ListN.{length, take, drop, replicate}
 use Rattle.whole.specs.Counted.{countOf}
 use Rattle.whole.specs.Evaluated.{same, all}
@@ -84,6 +84,11 @@ leapNine = tenths ++ (m 18 295 30 ∷ m 19 325 29 ∷ m 20 354 30 ∷ [])
 abbrev pub twelve : List Month
 twelve = tenths ++ (m 18 295 30 ∷ m 20 325 29 ∷ [])
 
+-- the same months of another year: 32 to a year in their handles
+abbrev inYear : ℕ → List Month → List Month
+inYear year [] = []
+inYear year (a ∷ as′) = record { handle = a .handle +ℤ pos 32 *ℤ (pos year -ℤ pos 2000); first = a .first; length = a .length } ∷ inYear year as′
+
 abbrev lengths : List ℕ
 lengths = 30 ∷ 29 ∷ 30 ∷ 29 ∷ 30 ∷ 29 ∷ 30 ∷ 29 ∷ 30 ∷ 29 ∷ 30 ∷ 29 ∷ 30 ∷ 29 ∷ []
 
@@ -133,9 +138,9 @@ examples =
     ∷ isRefused (rule (take 14 moons) (with 384 385 zhongqi)) 8
     ∷ isRefused (rule (drop 1 moons) zhongqi) 8
     ∷ isRefused (rule [] zhongqi) 8
-    -- years
-    ∷ isAccepted (monthsOf (pos 1700) (days moons) (days zhongqi))
-    ∷ isAccepted (monthsOf (pos 2500) (days moons) (days zhongqi))
+    -- years: each serves the handles only
+    ∷ isSui (monthsOf (pos 1700) (days moons) (days (with 21 20 zhongqi))) (inYear 1700 leapNine)
+    ∷ isSui (monthsOf (pos 2500) (days moons) (days (with 21 20 zhongqi))) (inYear 2500 leapNine)
     ∷ isRefused (monthsOf (pos 1699) (days moons) (days zhongqi)) 8
     ∷ isRefused (monthsOf (pos 2501) (days moons) (days zhongqi)) 8
     -- 3,000 and 3,001 new moons
