@@ -1,5 +1,5 @@
--- Worked values of a segment, checked by computation: document 01's, at a segment's beginning and middle, where rounding shows, slope and exact sum
--- (`values`); the first and the last value (`ends`); refusal 3 on both sides (`ranges`). Assumes nothing.
+-- Worked values of a segment, checked by computation: at a segment's beginning, middle and end, where rounding shows, slope and exact sum (`values`); the
+-- first and the last value (`ends`); refusal 3 on both sides (`ranges`). Document 01's starred values stand in the crate `examples`. Assumes nothing.
 use mathlib.Core.Bool.{Bool, not}
 use mathlib.Core.List.{List, [], _∷_, _++_}
 use lib.Dec.{T}
@@ -10,13 +10,9 @@ use Rattle.chebyshev.specs.Polynomials.{S, P, Q}
 use Rattle.chebyshev.specs.Segment.{sum, value, exact, divisor, slope, outOfRange}
 use Rattle.chebyshev.specs.EndValues.{evenSum, oddSum, squareSum, firstValue, lastValue}
 
--- the Sun series of document 01
-abbrev even : List ℤ
-even = pos 552960000 ∷ pos 552960000 ∷ []
-
--- with c2 = 1,000
+-- c0 - c1 + c2 at the beginning, c0 - c2 in the middle, c0 + c1 + c2 at the end
 abbrev bent : List ℤ
-bent = pos 552960000 ∷ pos 552960000 ∷ pos 1000 ∷ []
+bent = pos 400 ∷ pos 300 ∷ pos 20 ∷ []
 
 -- P(4) at the place 1 is S - 1, and would be S if a division rounded toward zero
 abbrev fourth : List ℤ
@@ -38,11 +34,10 @@ with13 c13 = pos 0 ∷ pos 0 ∷ pos 0 ∷ pos 0 ∷ pos 0 ∷ pos 0 ∷ pos 0 �
 unfoldable pub ends : List Bool
 unfolding value evenSum oddSum squareSum firstValue lastValue sum P floorDiv
 ends =
-    same (firstValue even) (pos 0)
-    ∷ same (firstValue bent) (pos 1000)
+    same (firstValue bent) (pos 120)
     ∷ same (firstValue wavy) (value wavy (negℤ (pos S)))
     ∷ same (firstValue wavy) (pos 998978265089)
-    ∷ same (lastValue 1382400 even) (pos 1105919600)
+    ∷ same (lastValue 1382400 bent) (pos 719)
     ∷ same (lastValue 1382400 wavy) (value wavy (pos 66355152))
     ∷ same (lastValue 1382400 wavy) (pos 1000959518078)
     ∷ same (lastValue 172800 wavy) (value wavy (pos 66354816))
@@ -72,16 +67,18 @@ ranges =
 unfoldable pub values : List Bool
 unfolding value exact divisor slope sum P Q floorDiv
 values =
-    same (value even (negℤ (pos S))) (pos 0)
-    ∷ same (value even (pos 0)) (pos 552960000)
-    ∷ same (value bent (negℤ (pos S))) (pos 1000)
-    ∷ same (value bent (pos 0)) (pos 552959000)
+    same (value bent (negℤ (pos S))) (pos 120)
+    ∷ same (value bent (pos 0)) (pos 380)
+    ∷ same (value bent (pos S)) (pos 720)
     ∷ same (value fourth (pos 1)) (pos 0)
     ∷ same (value falling (pos 1)) (negsuc 0)
-    ∷ same (slope bent) (pos 552956000)
-    ∷ same (exact even (negℤ (pos S))) (pos 0)
-    ∷ same (exact bent (negℤ (pos S))) (pos 1000 *ℤ divisor)
-    ∷ same (exact bent (pos 0)) (pos 552959000 *ℤ divisor)
+    ∷ same (value wavy (pos 12345678)) (pos 1000211018183)
+    ∷ same (slope bent) (pos 220)
+    ∷ same (slope wavy) (pos 827870685)
+    ∷ same (exact bent (negℤ (pos S))) (pos 120 *ℤ divisor)
+    ∷ same (exact bent (pos 0)) (pos 380 *ℤ divisor)
+    ∷ same (exact bent (pos S)) (pos 720 *ℤ divisor)
+    ∷ same (exact wavy (pos 0)) (pos 1000030785868 *ℤ divisor)
     ∷ []
 
 unfoldable pub examples : List Bool

@@ -1,5 +1,5 @@
--- Document 01's starred example of the clock, and what its numbers and orders are, each a computed fact on both sides, and all of them checked at once.
--- Assumes nothing.
+-- What document 01's numbers and orders on the clock are, each a computed fact on both sides, and all of them checked at once; its starred example stands in
+-- the crate `examples`. Assumes nothing.
 use Prim.Native.Nat.{ℕ, zero, suc, _^_, _-_}
 use mathlib.Core.Bool.{Bool, false, not, _&&_}
 use mathlib.Core.List.{List, [], _∷_}
@@ -19,18 +19,21 @@ use Rattle.clock.specs.Leap.{firstEntry, nextEntry, goodEntry, wholePair
 use Rattle.clock.specs.Clock.{convertible, tai, early, localMilli, reading, milliIn, dayOfMilli, shownOfMilli, dayIn, shownIn}
 use Rattle.clock.specs.Answers.{leapJudged, clockJudged, milliOf, dayOfSecond, shownOf}
 
-abbrev second : ℤ → Second
+abbrev pub second : ℤ → Second
 second s = record { 0 = s }
+
+abbrev milli : ℤ → Milli
+milli m = record { 0 = m }
 
 abbrev isMilli : Verdict Milli → ℤ → Bool
 isMilli (answered m) z = same (m .0) z
 isMilli (refused number segment) z = false
 
-abbrev isDay : Verdict Day → ℤ → Bool
+abbrev pub isDay : Verdict Day → ℤ → Bool
 isDay (answered d) z = same (d .0) z
 isDay (refused number segment) z = false
 
-abbrev isShown : Verdict ShownTime → ℕ → ℕ → ℕ → ℕ → ℕ → ℕ → ℕ → Bool
+abbrev pub isShown : Verdict ShownTime → ℕ → ℕ → ℕ → ℕ → ℕ → ℕ → ℕ → Bool
 isShown (answered t) y m d hour minute s milli =
     same (t .date .year) (pos y)
     && (same (t .date .month) (pos m)
@@ -43,7 +46,7 @@ abbrev daily : ℕ → ℕ → List ℤ
 daily zero d = []
 daily (suc n) d = pos d ∷ pos d ∷ daily n (suc d)
 
-abbrev table : List ℤ
+abbrev pub table : List ℤ
 table = negsuc 364 ∷ pos 32 ∷ []
 
 -- and a second inserted before 2006-01-01
@@ -61,11 +64,23 @@ unlawful = pos 0 ∷ pos 1001 ∷ []
 unfoldable pub examples : List Bool
 unfolding leapYear leapYearsTo newYear monthLengths yearOrNext yearOf monthsOver dateInYear dateFor floorDiv floorMod firstEntry nextEntry goodEntry every wholePairs leapLawful holdsFrom holds lastBelow entryUsed convertible tai early localMilli reading milliIn dayOfMilli shownOfMilli dayIn shownIn leapJudged clockJudged milliOf dayOfSecond shownOf
 examples =
-    -- document 01's starred example, and the first second of 2000
-    isDay (dayOfSecond table (second (negsuc 836106))) (negsuc 9)
-    ∷ isShown (shownOf table (second (negsuc 836106))) 1999 12 22 15 43 48 816
-    ∷ isMilli (milliOf table (second (pos 0))) (pos 28735816)
+    -- the first second of 2000
+    isMilli (milliOf table (second (pos 0))) (pos 28735816)
     ∷ isShown (shownOf table (second (pos 0))) 2000 1 1 7 58 55 816
+    -- both sides of midnight in UTC+8, where 2000 begins and where its second day does
+    ∷ isShown (shownOf table (second (negsuc 28735))) 1999 12 31 23 59 59 816
+    ∷ isShown (shownOf table (second (negsuc 28734))) 2000 1 1 0 0 0 816
+    ∷ isDay (dayOfSecond table (second (negsuc 28735))) (negsuc 0)
+    ∷ isDay (dayOfSecond table (second (negsuc 28734))) (pos 0)
+    ∷ isDay (dayOfSecond table (second (pos 57664))) (pos 0)
+    ∷ isDay (dayOfSecond table (second (pos 57665))) (pos 1)
+    -- the day of a millisecond, rounded down before 2000 too
+    ∷ same (dayOfMilli (milli (negsuc 86400000)) .0) (negsuc 1)
+    ∷ same (dayOfMilli (milli (negsuc 86399999)) .0) (negsuc 0)
+    ∷ same (dayOfMilli (milli (negsuc 0)) .0) (negsuc 0)
+    ∷ same (dayOfMilli (milli (pos 0)) .0) (pos 0)
+    ∷ same (dayOfMilli (milli (pos 86399999)) .0) (pos 0)
+    ∷ same (dayOfMilli (milli (pos 86400000)) .0) (pos 1)
     -- the instants before, inside and after the inserted second: inside it is shown as the second after it
     ∷ isShown (shownOf longer (second (pos 189388864))) 2006 1 1 7 59 59 816
     ∷ isShown (shownOf longer (second (pos 189388865))) 2006 1 1 8 0 0 816
@@ -92,7 +107,6 @@ examples =
     -- 1 before 6, 1 before 7, 6 before 7
     ∷ isRefused (dayOfSecond unlawful (second (pos 16000000001))) 1
     ∷ isRefused (dayOfSecond unlawful (second (pos 0))) 1
-    ∷ isRefused (dayOfSecond table (second (negsuc 10000000000))) 6
     ∷ isRefused (dayOfSecond (pos 100000 ∷ pos 0 ∷ []) (second (negsuc 10000000000))) 6
     -- 1 to 64 entries, in whole pairs
     ∷ isAccepted (leapJudged (daily 64 0))

@@ -1,5 +1,6 @@
--- Document 01's starred examples of dates, and what its numbers are, each a computed fact on both sides, and all of them checked at once. Assumes nothing.
-use Prim.Native.Nat.{ℕ, _^_, _-_}
+-- What document 01's numbers on dates are, each a computed fact on both sides, and all of them checked at once; its starred examples stand in the crate
+-- `examples`. Assumes nothing.
+use Prim.Native.Nat.{ℕ, _^_, _+_, _-_}
 use mathlib.Core.Bool.{Bool, false, _&&_}
 use mathlib.Core.List.{List, [], _∷_}
 use lib.Dec.{T}
@@ -13,33 +14,29 @@ use Rattle.times.specs.declared.Day.{Day}
 use Rattle.dates.specs.Calendar.{leapYear, leapYearsTo, newYear, monthLengths, monthLength, daysBefore, validDate, numberOf, yearOrNext, yearOf, monthsOver, dateInYear, dateFor}
 use Rattle.dates.specs.Answers.{hasDate, dateOf, dayOf}
 
-abbrev isDate : Verdict Date → ℤ → ℤ → ℤ → Bool
+abbrev pub isDate : Verdict Date → ℤ → ℤ → ℤ → Bool
 isDate (answered d) y m k = same (d .year) y && (same (d .month) m && same (d .day) k)
 isDate (refused number segment) y m k = false
 
-abbrev isDay : Verdict Day → ℤ → Bool
+abbrev pub isDay : Verdict Day → ℤ → Bool
 isDay (answered n) z = same (n .0) z
 isDay (refused number segment) z = false
 
-abbrev day : ℤ → Day
+abbrev pub day : ℤ → Day
 day n = record { 0 = n }
 
-abbrev date : ℕ → ℕ → ℕ → Date
+abbrev pub date : ℕ → ℕ → ℕ → Date
 date y m d = record { year = pos y; month = pos m; day = pos d }
+
+-- the first of a month of 2001, both ways
+abbrev firstOf : ℕ → ℕ → Bool
+firstOf month later = isDay (dayOf (date 2001 month 1)) (pos (366 + later)) && isDate (dateOf (day (pos (366 + later)))) (pos 2001) (pos month) (pos 1)
 
 unfoldable pub examples : List Bool
 unfolding leapYear leapYearsTo newYear monthLengths monthLength daysBefore validDate numberOf yearOrNext yearOf monthsOver dateInYear dateFor hasDate dateOf dayOf floorDiv floorMod
 examples =
-    -- document 01's starred examples, both ways
-    isDate (dateOf (day (negsuc 10226))) (pos 1972) (pos 1) (pos 1)
-    ∷ isDate (dateOf (day (pos 59))) (pos 2000) (pos 2) (pos 29)
-    ∷ isDate (dateOf (day (pos 8846))) (pos 2024) (pos 3) (pos 21)
-    ∷ isRefused (dayOf (date 1900 2 29)) 6
-    ∷ isDay (dayOf (date 1972 1 1)) (negsuc 10226)
-    ∷ isDay (dayOf (date 2000 2 29)) (pos 59)
-    ∷ isDay (dayOf (date 2024 3 21)) (pos 8846)
     -- the first day, and days before it
-    ∷ isDate (dateOf (day (pos 0))) (pos 2000) (pos 1) (pos 1)
+    isDate (dateOf (day (pos 0))) (pos 2000) (pos 1) (pos 1)
     ∷ isDate (dateOf (day (negsuc 0))) (pos 1999) (pos 12) (pos 31)
     ∷ isDate (dateOf (day (negsuc 365))) (pos 1998) (pos 12) (pos 31)
     -- days -150,000 to 200,000
@@ -58,6 +55,19 @@ examples =
     ∷ isDay (dayOf (date 2400 2 29)) (pos 146156)
     ∷ isDay (dayOf (date 1900 2 28)) (negsuc 36465)
     ∷ isDay (dayOf (date 1900 3 1)) (negsuc 36464)
+    -- where each month of 2001 begins: day 366 and so many days later
+    ∷ firstOf 1 0
+    ∷ firstOf 2 31
+    ∷ firstOf 3 59
+    ∷ firstOf 4 90
+    ∷ firstOf 5 120
+    ∷ firstOf 6 151
+    ∷ firstOf 7 181
+    ∷ firstOf 8 212
+    ∷ firstOf 9 243
+    ∷ firstOf 10 273
+    ∷ firstOf 11 304
+    ∷ firstOf 12 334
     -- no such date
     ∷ isDay (dayOf (date 2000 12 31)) (pos 365)
     ∷ isRefused (dayOf (date 2000 12 32)) 6

@@ -1,5 +1,6 @@
--- The order in which inputs are judged: leap table before Sun before Moon before 7, computed on inputs that break several rules at once. Assumes nothing.
-use mathlib.Core.Bool.{Bool}
+-- The order in which inputs are judged: leap table before Sun before Moon before 7, computed on inputs that break several rules at once; and 7 for any mark, on
+-- both sides of the first leap entry. Assumes nothing.
+use mathlib.Core.Bool.{Bool, not}
 use mathlib.Core.List.{List, [], _∷_, _++_}
 use Prim.Native.Nat.{ℕ}
 use lib.Dec.{T}
@@ -10,12 +11,14 @@ use Rattle.whole.specs.Below.{every}
 use Rattle.whole.specs.Evaluated.{all}
 use Rattle.refusals.specs.Search.{firstBad}
 use Rattle.refusals.specs.Evaluated.{isRefused, isRefusedAt}
-use Rattle.clock.specs.Leap.{leapLawful, wholePairs, firstEntry, nextEntry, goodEntry}
+use Rattle.clock.specs.Leap.{leapLawful, wholePairs, firstEntry, nextEntry, goodEntry, holdsFrom, holds}
+use Rattle.clock.specs.Clock.{tai, early}
 use Rattle.clock.specs.Answers.{leapJudged}
 use Rattle.chebyshev.specs.Polynomials.{P}
 use Rattle.chebyshev.specs.Segment.{sum, value, slope}
 use Rattle.series.specs.Acceptance.{seriesJudged}
-use Rattle.inputs.specs.Inputs.{Inputs, inputs, inputsJudged}
+use Rattle.marks.specs.Marks.{Mark}
+use Rattle.inputs.specs.Inputs.{Inputs, inputs, anyEarly, inputsJudged}
 
 -- a segment with c1 alone
 abbrev one : ℤ → List ℤ
@@ -28,16 +31,28 @@ late = pos 100000 ∷ pos 32 ∷ []
 abbrev bad : List ℤ
 bad = pos 0 ∷ pos 1001 ∷ []
 
+abbrev begins : List ℤ
+begins = pos 0 ∷ pos 32 ∷ []
+
+-- a mark at a second
+abbrev at : ℕ → Mark
+at second = record { index = pos 0; second = pos second }
+
 unfoldable pub examples : List Bool
-unfolding inputsJudged leapJudged leapLawful wholePairs firstEntry nextEntry goodEntry every seriesJudged firstBad value slope sum P floorDiv
+unfolding anyEarly early tai holdsFrom holds inputsJudged leapJudged leapLawful wholePairs firstEntry nextEntry goodEntry every seriesJudged firstBad value slope sum P floorDiv
 examples =
     -- a bad table, a bad coefficient of the Sun, no segment of the Moon
-    isRefused (inputsJudged (inputs bad (pos 0) (one (pos 4000000001)) (pos 0) [])) 1
+    isRefused (inputsJudged (inputs bad (pos 0) (one (pos 5000000000)) (pos 0) [])) 1
     -- the Sun's 3 before the Moon's 2; the Sun's 4 before the Moon's 3
-    ∷ isRefusedAt (inputsJudged (inputs late (pos 0) (one (pos 4000000001)) (pos 0) [])) 3 0
-    ∷ isRefusedAt (inputsJudged (inputs late (pos 0) (one (pos 138239999)) (pos 0) (one (pos 4000000001)))) 4 0
+    ∷ isRefusedAt (inputsJudged (inputs late (pos 0) (one (pos 5000000000)) (pos 0) [])) 3 0
+    ∷ isRefusedAt (inputsJudged (inputs late (pos 0) (one (pos 1)) (pos 0) (one (pos 5000000000)))) 4 0
     -- the Moon's 4 before 7
     ∷ isRefusedAt (inputsJudged (inputs late (pos 0) (one (pos 552960000)) (pos 0) (one (pos 17279999)))) 4 0
+    -- 7 for any mark: the table (0, 32) begins with second 65 (64.184 s of TDB), and the mark before it is the first, the last, or none
+    ∷ not (anyEarly begins (at 65 ∷ at 70 ∷ []))
+    ∷ anyEarly begins (at 64 ∷ at 70 ∷ [])
+    ∷ anyEarly begins (at 70 ∷ at 64 ∷ [])
+    ∷ not (anyEarly begins [])
     ∷ []
 
 pub examples-hold : T (all examples)

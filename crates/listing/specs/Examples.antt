@@ -2,13 +2,13 @@
 -- computed facts, checked at once. (The marks of a listing are stepped second by second, and run by programs.) Assumes nothing.
 use mathlib.Core.Bool.{Bool, true, false, not, _&&_}
 use mathlib.Core.List.{List, [], _∷_, _++_}
-use Prim.Native.Nat.{ℕ, _*_}
+use Prim.Native.Nat.{ℕ, zero, suc}
 use lib.Dec.{T, eqb}
 use lib.IntN.{ℤ, pos, negsuc}
 use lib.ListN.{replicate}
-use Rattle.refusals.specs.Verdict.{Verdict, answered, refused}
+use Rattle.refusals.specs.Verdict.{Verdict, answered, refused, _then_}
 use Rattle.refusals.specs.Evaluated.{isAccepted, isRefused}
-use Rattle.whole.specs.Evaluated.{all, sameNumbers}
+use Rattle.whole.specs.Evaluated.{same, all, sameNumbers}
 use Rattle.whole.specs.Floor.{floorDiv, floorMod}
 use Rattle.whole.specs.Below.{every, lastBelow}
 use Rattle.words.specs.Words.{words}
@@ -19,14 +19,39 @@ use Rattle.clock.specs.Clock.{tai, localMilli, reading, milliIn, dayOfMilli, sh
 use Rattle.clock.specs.Answers.{leapJudged}
 use Rattle.series.specs.declared.Body.the-variants.{Sun, Moon}
 use Rattle.marks.specs.Marks.{Mark}
-use Rattle.inputs.specs.Inputs.{inputsJudged}
+use Rattle.inputs.specs.Inputs.{Inputs, inputsJudged}
 use Rattle.layout.specs.declared.inner.Places.{Places}
-use Rattle.layout.specs.Layout.{sectionEnd, places}
+use Rattle.layout.specs.Layout.{sectionEnd, places, inputsAt}
 use Rattle.listing.specs.Listing.{lineOf, linesBy, listed, listedWords, listedBytes}
 
 abbrev isPlaces : ℕ → ℕ → Verdict Places → Bool
 isPlaces sun moon (answered p) = eqb (p .sun) sun && eqb (p .moon) moon
 isPlaces sun moon (refused number segment) = false
+
+-- n words, counted from k on
+abbrev counted : ℕ → ℕ → List ℤ
+counted k zero = []
+counted k (suc n) = pos k ∷ counted (suc k) n
+
+abbrev sameWords : List ℤ → List ℤ → Bool
+sameWords [] [] = true
+sameWords [] (b ∷ bs) = false
+sameWords (a ∷ as′) [] = false
+sameWords (a ∷ as′) (b ∷ bs) = same a b && sameWords as′ bs
+
+-- an entry, a segment of the Sun and one of the Moon, each word another
+abbrev given : List ℤ
+given = pos 1 ∷ counted 11 2 ++ pos 1 ∷ pos 20 ∷ counted 21 14 ++ pos 1 ∷ pos 40 ∷ counted 41 14
+
+-- which of them are which
+abbrev isInputs : Verdict Inputs → Bool
+isInputs (answered i) =
+    sameWords (i .leap) (counted 11 2)
+    && (same (i .sunStart) (pos 20)
+    && (sameWords (i .sunCoefs) (counted 21 14)
+    && (same (i .moonStart) (pos 40)
+    && sameWords (i .moonCoefs) (counted 41 14))))
+isInputs (refused number segment) = false
 
 -- one segment of zeros, with its count and start
 abbrev one : List ℤ
@@ -46,16 +71,16 @@ sameLines [] (l ∷ ls) = false
 sameLines (k ∷ ks) [] = false
 sameLines (k ∷ ks) (l ∷ ls) = sameNumbers k l && sameLines ks ls
 
--- mark -1, at the second of document 01's starred example, and that example's table
+-- mark -1, in the last second of 1999
 abbrev minusOne : Mark
-minusOne = record { index = negsuc 0; second = negsuc 836106 }
+minusOne = record { index = negsuc 0; second = negsuc 28735 }
 
 abbrev table : List ℤ
 table = negsuc 364 ∷ pos 32 ∷ []
 
 -- a line of that second, by its letter and its index
 abbrev lineThen : ℕ → ℕ → List ℕ
-lineThen letter index = line letter index (date 1999 12 22) (time 15 43 48 816)
+lineThen letter index = line letter index (date 1999 12 31) (time 23 59 59 816)
 
 unfoldable pub examples : List Bool
 unfolding sectionEnd places lineOf listed listedWords listedBytes words inputsJudged leapJudged leapLawful wholePairs firstEntry nextEntry goodEntry every leapYear leapYearsTo newYear monthLengths yearOrNext yearOf monthsOver dateInYear dateFor floorDiv floorMod holdsFrom holds lastBelow entryUsed tai localMilli reading milliIn dayOfMilli shownOfMilli shownIn
@@ -64,6 +89,8 @@ examples =
     isPlaces 3 19 (places (leap ++ one ++ one))
     ∷ isRefused (places (leap ++ one ++ pos 1 ∷ pos 0 ∷ replicate 13 (pos 0))) 13
     ∷ isRefused (places (leap ++ one ++ one ++ pos 0 ∷ [])) 13
+    -- which words are which: leap table, then the Sun's start and coefficients, then the Moon's
+    ∷ isInputs (places given then λ p. answered (inputsAt given p))
     -- no entry and no segment keep the layout; a negative count does not
     ∷ isPlaces 1 3 (places (pos 0 ∷ pos 0 ∷ pos 0 ∷ pos 0 ∷ pos 0 ∷ []))
     ∷ isRefused (places (negsuc 0 ∷ pos 0 ∷ pos 0 ∷ pos 0 ∷ pos 0 ∷ [])) 13

@@ -20,7 +20,7 @@ use Rattle.series.specs.declared.Body.the-variants.{Sun}
 use Rattle.series.specs.Bodies.{numbers}
 use Rattle.series.specs.Series.{Series, series, valueAt}
 use Rattle.series.specs.Acceptance.{Accepted, seriesJudged}
-use Rattle.series.specs.Examples.{three, sunSegment, sun, moon, joined}
+use Rattle.series.specs.Examples.{three, sunSegment, sun, moon, joined, alone}
 use Rattle.marks.specs.Marks.{indexAt, markAt}
 use Rattle.marks.specs.Listed.{listedMarks, reachedAt, firstReached, lastReached}
 use Rattle.marks.specs.Answers.{countedMarks, listedInto}
@@ -50,10 +50,10 @@ examples =
     ∷ same (reachedAt (series Sun (pos 0) (three (pos 552959999) (pos 552960000) (pos 0))) (pos 0)) (negℤ (pos 1))
     -- 2 to 5 before 12
     ∷ isRefused (listedInto (series Sun (pos 10000000001) sunSegment) 0) 2
-    ∷ isRefusedAt (listedInto (series Sun (pos 0) (three (pos 0) (pos 4000000001) (pos 0))) 0) 3 0
-    ∷ isRefusedAt (listedInto (series Sun (pos 0) (three (pos 0) (pos 138239999) (pos 0))) 0) 4 0
-    ∷ isRefusedAt (listedInto (joined 1658879799) 0) 5 1
-    ∷ isRefusedAt (countedMarks (joined 1658879799)) 5 1
+    ∷ isRefusedAt (listedInto (series Sun (pos 0) (three (pos 0) (pos 5000000000) (pos 0))) 0) 3 0
+    ∷ isRefusedAt (listedInto (series Sun (pos 0) (three (pos 0) (pos 1) (pos 0))) 0) 4 0
+    ∷ isRefusedAt (listedInto (joined 1658879000) 0) 5 1
+    ∷ isRefusedAt (countedMarks (joined 1658879000)) 5 1
     ∷ []
 
 pub examples-hold : T (all examples)
@@ -74,26 +74,9 @@ module _ (s : Series) (e : Accepted s) {a b : ℤ} (first : firstReached s ≡ a
   short : (room : ℕ) → room < 2 * distanceFrom a b → listedInto s room ≡ refused 12 0
   short room h = rw (e, words-length (listedMarks s), listed, lt-ltb room (2 * distanceFrom a b) h)
 
--- the Sun series of the listing example has two: mark 0, at the first second, is not listed; the Moon's has one
-sun-accepted : Accepted sun
-unfolding seriesJudged value slope sum P floorDiv firstBad
-sun-accepted = refl
-
-moon-accepted : Accepted moon
-unfolding seriesJudged value slope sum P floorDiv firstBad
-moon-accepted = refl
-
-pub two-of-the-sun : countedMarks sun ≡ answered 2
-unfolding valueAt value sum P floorDiv indexAt
-two-of-the-sun = counted sun sun-accepted {a = pos 0} {b = pos 2} refl refl
-
-pub one-of-the-moon : countedMarks moon ≡ answered 1
-unfolding valueAt value sum P floorDiv indexAt
-one-of-the-moon = counted moon moon-accepted {a = pos 0} {b = pos 1} refl refl
-
 -- four marks in two segments
 abbrev pub two : Series
-two = joined 1658880000
+two = joined 1658880100
 
 two-accepted : Accepted two
 unfolding seriesJudged value slope sum P floorDiv firstBad
@@ -127,3 +110,21 @@ still-accepted = refl
 pub none-listed-in-0 : listedInto still 0 ≡ answered 0
 unfolding valueAt value sum P floorDiv indexAt
 none-listed-in-0 = enough still still-accepted {a = pos 0} {b = pos 0} refl refl 0 (lit≤ tt)
+
+-- both ends of the span, by a Sun that rises by 100 units a second: a mark at the last second is listed, one a unit further is not ..
+pub listed-at-the-last-second : countedMarks (alone Sun (pos 401760100) (pos 138240000)) ≡ answered 1
+unfolding seriesJudged valueAt value slope sum P floorDiv firstBad indexAt
+listed-at-the-last-second = counted (alone Sun (pos 401760100) (pos 138240000)) refl {a = pos 0} {b = pos 1} refl refl
+
+pub not-listed-behind-it : countedMarks (alone Sun (pos 401760099) (pos 138240000)) ≡ answered 0
+unfolding seriesJudged valueAt value slope sum P floorDiv firstBad indexAt
+not-listed-behind-it = counted (alone Sun (pos 401760099) (pos 138240000)) refl {a = pos 0} {b = pos 0} refl refl
+
+-- .. and one at the first second is not listed, one a unit further is, at the second after it
+pub not-listed-at-the-first-second : countedMarks (alone Sun (pos 678240000) (pos 138240000)) ≡ answered 0
+unfolding seriesJudged valueAt value slope sum P floorDiv firstBad indexAt
+not-listed-at-the-first-second = counted (alone Sun (pos 678240000) (pos 138240000)) refl {a = pos 1} {b = pos 1} refl refl
+
+pub listed-behind-it : countedMarks (alone Sun (pos 678239999) (pos 138240000)) ≡ answered 1
+unfolding seriesJudged valueAt value slope sum P floorDiv firstBad indexAt
+listed-behind-it = counted (alone Sun (pos 678239999) (pos 138240000)) refl {a = pos 0} {b = pos 1} refl refl

@@ -1,10 +1,10 @@
--- Document 01's starred examples of months, the edges of the rule, and both sides of every bound, each a computed fact, and all of them checked at
--- once. Assumes nothing.
+-- The edges of the month rule and both sides of every bound, each a computed fact, and all of them checked at once, on the lists of document 01's starred
+-- examples, which stand themselves in the crate `examples`. Assumes nothing.
 use mathlib.Core.Bool.{Bool, true, false, cond, not, _&&_}
 use mathlib.Core.List.{List, [], _∷_, _++_}
 use Prim.Native.Nat.{ℕ, zero, suc, _+_, _-_}
 use lib.Dec.{T, eqb}
-use lib.IntN.{ℤ, pos, negsuc, _-ℤ_}
+use lib.IntN.{ℤ, pos, negsuc, _+ℤ_, _-ℤ_, _*ℤ_}
 use lib.ListN.{length, take, drop, replicate}
 use Rattle.whole.specs.Counted.{countOf}
 use Rattle.whole.specs.Evaluated.{same, all}
@@ -31,7 +31,7 @@ earlier n [] = []
 earlier n (d ∷ ds) = (d -ℤ pos n) ∷ earlier n ds
 
 -- b where a stood
-abbrev with : ℕ → ℕ → List ℕ → List ℕ
+abbrev pub with : ℕ → ℕ → List ℕ → List ℕ
 with b a [] = []
 with b a (n ∷ ns) = cond (eqb n a) b n ∷ with b a ns
 
@@ -46,7 +46,7 @@ every step d zero = []
 every step d (suc n) = d ∷ every step (d + step) n
 
 -- a month of the year 2000 by its number and mark, written 2 x number + mark, its first day and its length
-abbrev m : ℕ → ℕ → ℕ → Month
+abbrev pub m : ℕ → ℕ → ℕ → Month
 m name first n = record { handle = pos (64000 + name); first = pos first; length = pos n }
 
 abbrev sameMonths : List Month → List Month → Bool
@@ -56,7 +56,7 @@ sameMonths (a ∷ as′) [] = false
 sameMonths (a ∷ as′) (b ∷ bs) = same (a .handle) (b .handle) && (same (a .first) (b .first) && (same (a .length) (b .length) && sameMonths as′ bs))
 
 -- these months, and nothing behind them
-abbrev isSui : Verdict Sui → List Month → Bool
+abbrev pub isSui : Verdict Sui → List Month → Bool
 isSui (answered sui) months = eqb (sui .count) (length months) && sameMonths (sui .months) (months ++ replicate (13 - length months) noMonth)
 isSui (refused number segment) months = false
 
@@ -65,24 +65,29 @@ abbrev isRefusal : SuiAnswer → ℕ → Bool
 isRefusal r number = isRefused (paperSui r) number && (eqb (r .sui .count) 0 && sameMonths (r .sui .months) (replicate 13 noMonth))
 
 -- ---- document 01's lists
-abbrev moons : List ℕ
+abbrev pub moons : List ℕ
 moons = 0 ∷ 30 ∷ 59 ∷ 89 ∷ 118 ∷ 148 ∷ 177 ∷ 207 ∷ 236 ∷ 266 ∷ 295 ∷ 325 ∷ 354 ∷ 384 ∷ 413 ∷ []
 
-abbrev zhongqi : List ℕ
+abbrev pub zhongqi : List ℕ
 zhongqi = 20 ∷ 50 ∷ 81 ∷ 111 ∷ 142 ∷ 172 ∷ 203 ∷ 233 ∷ 264 ∷ 294 ∷ 324 ∷ 355 ∷ 385 ∷ []
 
-abbrev ofTwelve : List ℕ
+abbrev pub ofTwelve : List ℕ
 ofTwelve = 2 ∷ 30 ∷ 58 ∷ 88 ∷ 119 ∷ 149 ∷ 180 ∷ 211 ∷ 242 ∷ 273 ∷ 303 ∷ 333 ∷ 363 ∷ []
 
 -- their months up to place 9, and up to place 11
-abbrev tenths : List Month
+abbrev pub tenths : List Month
 tenths = m 22 0 30 ∷ m 24 30 29 ∷ m 2 59 30 ∷ m 4 89 29 ∷ m 6 118 30 ∷ m 8 148 29 ∷ m 10 177 30 ∷ m 12 207 29 ∷ m 14 236 30 ∷ m 16 266 29 ∷ []
 
-abbrev leapNine : List Month
+abbrev pub leapNine : List Month
 leapNine = tenths ++ (m 18 295 30 ∷ m 19 325 29 ∷ m 20 354 30 ∷ [])
 
-abbrev twelve : List Month
+abbrev pub twelve : List Month
 twelve = tenths ++ (m 18 295 30 ∷ m 20 325 29 ∷ [])
+
+-- the same months of another year: 32 to a year in their handles
+abbrev inYear : ℕ → List Month → List Month
+inYear year [] = []
+inYear year (a ∷ as′) = record { handle = a .handle +ℤ pos 32 *ℤ (pos year -ℤ pos 2000); first = a .first; length = a .length } ∷ inYear year as′
 
 abbrev lengths : List ℕ
 lengths = 30 ∷ 29 ∷ 30 ∷ 29 ∷ 30 ∷ 29 ∷ 30 ∷ 29 ∷ 30 ∷ 29 ∷ 30 ∷ 29 ∷ 30 ∷ 29 ∷ []
@@ -98,16 +103,14 @@ apart = 2 ∷ 32 ∷ 63 ∷ 93 ∷ 124 ∷ 154 ∷ 185 ∷ 215 ∷ 246 ∷ 276 �
 abbrev allWith : List ℕ → SuiDays
 allWith starts = record { months = 13; moons = days (take 14 starts); zhongqi = days (take 13 starts) }
 
-abbrev rule : List ℕ → List ℕ → Verdict Sui
+abbrev pub rule : List ℕ → List ℕ → Verdict Sui
 rule moons zhongqi = monthsOf (pos 2000) (days moons) (days zhongqi)
 
 unfoldable pub examples : List Bool
 unfolding countOf firstFrom firstBelow numberAt leapMark handle handleAt monthOf notAfter lastNotAfter byFirst bySecond isMissing moonMissing monthCount twelveOrThirteen daysFound daysOf monthLength isWithin zhongqiIn zhongqiOf without firstWithout leapMonth monthAt numbered goodLength badMonth firstBadMonth lengthsJudged noneWithout leapMonthJudged suiOf suiIn yearInRange rising dayInRange inRange daysKept listsKept monthsOf
 examples =
-    -- the month at 325 is leap 9; with 325 for 324 the month at 295 is leap 8; 12 months, no leap, though 89 to 117 has none
-    isSui (rule moons zhongqi) leapNine
-    ∷ isSui (rule moons (with 325 324 zhongqi)) (tenths ++ (m 17 295 30 ∷ m 18 325 29 ∷ m 20 354 30 ∷ []))
-    ∷ isSui (rule moons ofTwelve) twelve
+    -- 12 months, no leap, though 30 to 58 has no zhongqi
+    isSui (rule moons (0 ∷ 29 ∷ every 30 60 11)) twelve
     -- new moons on the two solstice days
     ∷ isSui (rule moons (with 0 20 (with 384 385 zhongqi))) leapNine
     -- a zhongqi on the last day of the month at 325, and on the first day of the next
@@ -135,9 +138,9 @@ examples =
     ∷ isRefused (rule (take 14 moons) (with 384 385 zhongqi)) 8
     ∷ isRefused (rule (drop 1 moons) zhongqi) 8
     ∷ isRefused (rule [] zhongqi) 8
-    -- years
-    ∷ isAccepted (monthsOf (pos 1700) (days moons) (days zhongqi))
-    ∷ isAccepted (monthsOf (pos 2500) (days moons) (days zhongqi))
+    -- years: each serves the handles only
+    ∷ isSui (monthsOf (pos 1700) (days moons) (days (with 21 20 zhongqi))) (inYear 1700 leapNine)
+    ∷ isSui (monthsOf (pos 2500) (days moons) (days (with 21 20 zhongqi))) (inYear 2500 leapNine)
     ∷ isRefused (monthsOf (pos 1699) (days moons) (days zhongqi)) 8
     ∷ isRefused (monthsOf (pos 2501) (days moons) (days zhongqi)) 8
     -- 3,000 and 3,001 new moons

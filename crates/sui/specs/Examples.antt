@@ -5,12 +5,13 @@ use mathlib.Core.List.{List, [], _∷_, _++_}
 use Prim.Native.Nat.{ℕ, _+_, _-_}
 use lib.Dec.{T, eqb}
 use lib.IntN.{ℤ, pos, negsuc, _+ℤ_, _-ℤ_, _*ℤ_}
-use lib.ListN.{take, drop, replicate}
+use lib.ListN.{getD, take, drop, replicate}
 use Rattle.whole.specs.Below.{every, lastBelow}
 use Rattle.whole.specs.Counted.{countOf}
 use Rattle.whole.specs.Evaluated.{same, all}
 use Rattle.whole.specs.Floor.{floorDiv, floorMod}
-use Rattle.refusals.specs.Verdict.{Verdict, answered, refused}
+use Rattle.whole.specs.Found.{firstFrom, firstBelow}
+use Rattle.refusals.specs.Verdict.{Verdict, answered, refused, _then_}
 use Rattle.refusals.specs.Evaluated.{isRefused, isRefusedAt}
 use Rattle.refusals.specs.Search.{firstBad}
 use Rattle.dates.specs.Calendar.{leapYearsTo, newYear, yearOrNext, yearOf}
@@ -24,7 +25,9 @@ use Rattle.marks.specs.Marks.{Mark}
 use Rattle.marks.specs.Crossings.{marked}
 use Rattle.inputs.specs.Inputs.{inputs, inputsJudged}
 use Rattle.months.specs.declared.SuiDays.{SuiDays}
-use Rattle.months.specs.Months.{notAfter, byFirst, bySecond, isMissing, moonMissing, monthCount, twelveOrThirteen, daysFound, daysOf}
+use Rattle.months.specs.declared.Sui.{Sui}
+use Rattle.months.specs.Handles.{numberAt, leapMark, handle, handleAt, monthOf, noMonth}
+use Rattle.months.specs.Months.{notAfter, byFirst, bySecond, isMissing, moonMissing, monthCount, twelveOrThirteen, daysFound, daysOf, monthLength, isWithin, zhongqiIn, zhongqiOf, without, firstWithout, leapMonth, monthAt, numbered, goodLength, badMonth, firstBadMonth, lengthsJudged, noneWithout, leapMonthJudged, suiOf}
 use Rattle.months.specs.Limits.{yearInRange}
 use Rattle.whole.specs.Selected.{select}
 use Rattle.sui.specs.Sui.{isSolstice, isZhongqi, isNewMoon, oneSolstice, newMoonDaysOf, solsticesOf, zhongqiDaysOf, daysByMarks, suiDays, suiFor}
@@ -48,6 +51,13 @@ sameDays later (a ∷ as′) (b ∷ bs) = same a (pos b +ℤ later) && sameDays 
 abbrev isDays : Verdict SuiDays → ℤ → ℕ → List ℕ → List ℕ → Bool
 isDays (answered days) later months moons zhongqi = eqb (days .months) months && (sameDays later (take (months + 1) (days .moons)) moons && sameDays later (days .zhongqi) zhongqi)
 isDays (refused number segment) later months moons zhongqi = false
+
+-- the month at a place of a sui: its handle, first day and length
+abbrev isMonth : Verdict Sui → ℕ → ℕ → ℕ → ℕ → Bool
+isMonth (answered sui) place handle first n =
+    let m = getD (sui .months) place noMonth in
+    same (m .handle) (pos handle) && (same (m .first) (pos first) && same (m .length) (pos n))
+isMonth (refused number segment) place handle first n = false
 
 abbrev isMark : Verdict Mark → ℤ → Bool
 isMark (answered m) index = same (m .index) index
@@ -131,6 +141,8 @@ unfoldable pub examples : List Bool
 unfolding
     isSolstice isZhongqi isNewMoon oneSolstice newMoonDaysOf solsticesOf zhongqiDaysOf daysByMarks suiDays suiFor select
     daysOf daysFound notAfter byFirst bySecond isMissing moonMissing monthCount twelveOrThirteen countOf yearInRange
+    monthLength isWithin zhongqiIn zhongqiOf without firstWithout firstFrom firstBelow leapMonth numberAt leapMark handle handleAt monthOf monthAt numbered
+    goodLength badMonth firstBadMonth lengthsJudged noneWithout leapMonthJudged suiOf
     dayIn dayOfMilli milliIn reading localMilli tai holdsFrom holds entryUsed lastBelow
     leapYearsTo newYear yearOrNext yearOf floorDiv floorMod
     inputsJudged leapJudged leapLawful wholePairs firstEntry nextEntry goodEntry every seriesJudged firstBad value slope sum P
@@ -162,6 +174,11 @@ examples =
     -- two real suis
     ∷ isDays (suiAt (pos 0) (pos 2033)) (pos 0) 12 moons2033 zhongqi2033
     ∷ isDays (suiAt (pos 0) (pos 2034)) (pos 0) 13 moons2034 zhongqi2034
+    -- a zhongqi belongs to the month that has its day: mark 836 comes before the new moon of its day, 12,438, so the month at 12,409 has none: leap 11
+    ∷ isMonth (suiAt (pos 0) (pos 2034) then suiOf (pos 2034)) 1 65111 12409 29
+    ∷ isMonth (suiAt (pos 0) (pos 2034) then suiOf (pos 2034)) 2 65112 12438 30
+    -- the month at 12,290 has none either, in a sui of 12: it is month 8
+    ∷ isMonth (suiAt (pos 0) (pos 2033) then suiOf (pos 2033)) 9 65072 12290 29
     -- no solstice in the year before, none in the year, two in one year
     ∷ isRefused (suiAt (pos 0) (pos 2032)) 8
     ∷ isRefused (suiAt (pos 0) (pos 2035)) 8
@@ -181,8 +198,8 @@ examples =
     ∷ isRefused (suiAt (to2500 +ℤ pos 365) (pos 2501)) 8
     -- 1, the Sun's 4 and the Moon's 3 before 8
     ∷ isRefused (suiFor (inputs (pos 0 ∷ pos 1001 ∷ []) (pos 0) (one (pos 552960000)) (pos 0) (one (pos 864000000))) utc8 (pos 1699)) 1
-    ∷ isRefusedAt (suiFor (inputs table (pos 0) (one (pos 138239999)) (pos 0) (one (pos 4000000001))) utc8 (pos 1699)) 4 0
-    ∷ isRefusedAt (suiFor (inputs table (pos 0) (one (pos 552960000)) (pos 0) (one (pos 4000000001))) utc8 (pos 1699)) 3 0
+    ∷ isRefusedAt (suiFor (inputs table (pos 0) (one (pos 1)) (pos 0) (one (pos 5000000000))) utc8 (pos 1699)) 4 0
+    ∷ isRefusedAt (suiFor (inputs table (pos 0) (one (pos 552960000)) (pos 0) (one (pos 5000000000))) utc8 (pos 1699)) 3 0
     ∷ []
 
 pub examples-hold : T (all examples)

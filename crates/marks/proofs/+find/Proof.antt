@@ -1,8 +1,10 @@
 -- `marks::find` meets its contract. The measure is the number of the stretch's seconds. `at-halves` has every fact about the two halves, from the place after
 -- `distance2` on, which `there` names in the needs behind it; `told` is the place where both seconds are read. Assumes nothing.
-use mathlib.Core.Path.{_≡_, sym, ap, _∙_}
+use mathlib.Core.Path.{_≡_, sym, ap, ap₂, _∙_}
+use mathlib.Core.List.{[], _∷_}
 use native.Mathlib.Omega.{arith}
 use Prim.Native.Nat.{ℕ, _*_, _≤_, _<_}
+use lib.IntN.{ℤ}
 use lib.ListN.{length, length-append, length-set}
 use lib.Seq.{length-take-le}
 use borrow.Fn.Kinds.{In}
@@ -127,8 +129,9 @@ find-returns-2 : (t : ℕ) → find-lts.Need-returns-2 (called t) (find-at t) fi
 find-returns-2 t c =
     let told = c .before .before in
     let start = told .before .before .before in
-    rw (toZ-ofZ (start .fits .highest), at-hi t told)
-    (two-set (start .args .out .now) (start .args .highest) (start .args .hi .0) (at-room t c) ∙ sym (one-mark (start .pre .1 .1) (at-differ t (told .before .before)) (sym (at-seconds t (c .before)) ∙ c .if2 .taken)))
+    two-set (start .args .out .now) (toZ w64 (ofZ w64 (start .args .highest))) (toZ w64 (ofZ w64 (start .args .hi .0))) (at-room t c)
+    ∙ ap₂ (λ (index second : ℤ). index ∷ second ∷ []) (toZ-ofZ (start .fits .highest)) (at-hi t told)
+    ∙ sym (one-mark (start .pre .1 .1) (at-differ t (told .before .before)) (sym (at-seconds t (c .before)) ∙ c .if2 .taken))
 
 find-middle-requires : (t : ℕ) → find-lts.Need-middle-requires (called t) (find-at t) find.Post
 find-middle-requires t c κs =

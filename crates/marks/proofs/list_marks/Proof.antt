@@ -1,6 +1,6 @@
 -- `marks::list_marks` meets its contract: what was planned is what the finder fills. In the needs, `known` is the place where the planned number of marks is known.
 -- Assumes nothing.
-use mathlib.Core.Path.{_≡_, refl, sym, ap, _∙_}
+use mathlib.Core.Path.{_≡_, refl, sym, ap, subst, _∙_}
 use mathlib.Core.List.{List, _++_}
 use native.Mathlib.Omega.{arith}
 use Prim.Native.Nat.{ℕ, _*_}
@@ -14,7 +14,7 @@ use Rattle.whole.specs.Distance.{distanceFrom}
 use Rattle.series.specs.Series.{Series, series, lastSecond}
 use Rattle.marks.specs.Words.{markWords}
 use Rattle.marks.specs.Stretch.{StretchOf}
-use Rattle.marks.specs.Listed.{listedMarks}
+use Rattle.marks.specs.Listed.{marksBetween, listedMarks}
 use Rattle.refusals.specs.Lent.{writtenInto}
 use Rattle.marks.specs.Answers.{paperList, listedInto, Answered}
 use Rattle.marks.specs.theory.Words.{words-length}
@@ -119,8 +119,11 @@ find-requires : tie.Need-find-requires
 find-requires c κs =
     let last = c .before in
     let known = last .before .before .before in
-    rw (last .before .before .last-second .ensures, back (last .before .first-reached .result) (last .before .first-reached .ok), back (last .last-reached .result) (last .last-reached .ok), at-lent known, at-count last)
-    (at-answered known .is-accepted, at-span last)
+    let s = series-of known in
+    let lowest = last .before .first-reached .result in
+    let highest = last .last-reached .result in
+    rw (back lowest (last .before .first-reached .ok), back highest (last .last-reached .ok), at-lent known, at-count last)
+    (at-answered known .is-accepted, subst (λ (to : ℤ). StretchOf s (s .start) to lowest highest (2 * distanceFrom lowest highest)) (sym (last .before .before .last-second .ensures)) (at-span last))
 
 returns : tie.Need-returns
 returns c =
@@ -140,7 +143,7 @@ returns-2 c =
     let known = last .before .before .before in
     let s = series-of known in
     let size = words-length (listedMarks s) ∙ ap (_*_ 2) (sym (at-answered known .is-count)) in
-    let wrote = rw (last .before .before .last-second .ensures) at (find .find .ensures) in
+    let wrote = find .find .ensures ∙ ap (λ (to : ℤ). markWords (marksBetween s (s .start) to)) (last .before .before .last-second .ensures) in
     settled-listed (count-of known) (2 * count-of known) (markWords (listedMarks s)) (out-of known) (at-answer known) size wrote
 
 pub list-marks-spec : {M : Type 1} → statement M
