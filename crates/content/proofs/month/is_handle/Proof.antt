@@ -1,4 +1,4 @@
--- `content::suimonths::is_handle` meets its contract. Assumes nothing.
+-- `content::month::is_handle` meets its contract. Assumes nothing.
 use mathlib.Core.Path.{_≡_, sym, ap, _∙_}
 use mathlib.Core.Bool.{Bool, true, false}
 use Prim.Native.Nat.{ℕ, _+_, _*_, _-_, _≤_, _<_}
@@ -13,8 +13,8 @@ use Rattle.whole.specs.Ranges.{Within, fits, bounds, back}
 use Rattle.months.specs.declared.Month.{Month}
 use Rattle.months.specs.Handles.{handleAt, monthOf}
 use borrow.Author.Needs.{needs}
-use Rattle.content.proofs.suimonths.is_handle.Statement.{statement}
-use Rattle.content.proofs.suimonths.is_handle.Tie as tie
+use Rattle.content.proofs.month.is_handle.Statement.{statement}
+use Rattle.content.proofs.month.is_handle.Tie as tie
 
 month-of-requires : tie.Need-month-of-requires
 month-of-requires c κs = search needs
