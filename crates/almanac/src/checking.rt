@@ -7,7 +7,6 @@ use content::inner::first_handle;
 use content::inner::good_sui;
 use content::inner::judge_month;
 use dates::inner::has_date;
-use months::Month;
 use times::Day;
 use whole::inner::add;
 use whole::inner::count;
@@ -41,6 +40,13 @@ struct SuiRead {
     months: i64,
 }
 
+// A month: handle, first day and length.
+struct MonthRead {
+    handle: i64,
+    first: i64,
+    size: i64,
+}
+
 // Sui i of a file of these counts.
 fn sui_at(file: &[u8], n: Counts, i: usize) -> SuiRead
     requires { ⌜ endAt (n .entries) (n .suis) (n .months) ≤ length (now file) ⌝ }
@@ -56,28 +62,23 @@ fn sui_at(file: &[u8], n: Counts, i: usize) -> SuiRead
 }
 
 // Month k of a file of these counts.
-fn month_at(file: &[u8], n: Counts, k: usize) -> Month
+fn month_at(file: &[u8], n: Counts, k: usize) -> MonthRead
     requires { ⌜ endAt (n .entries) (n .suis) (n .months) ≤ length (now file) ⌝ }
     requires { ⌜ k < n .months ⌝ }
-    ensures { λ r. ⌜ r ≡ monthAt (contentAt (now (file .entry)) n .months) k ⌝ }
+    ensures { λ r. ⌜ r .handle ≡ monthAt (contentAt (now (file .entry)) n .months) k .handle ⌝ }
+    ensures { λ r. ⌜ r .first ≡ monthAt (contentAt (now (file .entry)) n .months) k .first ⌝ }
+    ensures { λ r. ⌜ r .size ≡ monthAt (contentAt (now (file .entry)) n .months) k .length ⌝ }
 {
     let at = 4 + 8 * n.entries + 4 + 5 * n.suis + 4 + 9 * k;
-    Month {
+    MonthRead {
         handle: unsigned4_at(file, at),
         first: signed4_at(file, at + 4),
-        length: byte_at(file, at + 8),
+        size: byte_at(file, at + 8),
     }
 }
 
 // The months of a sui, which stand from month `from` on.
-fn months_at(
-    file: &[u8],
-    n: Counts,
-    year: i64,
-    size: i64,
-    from: usize,
-    due: i64,
-) -> MonthsJudged
+fn months_at(file: &[u8], n: Counts, year: i64, size: i64, from: usize, due: i64) -> MonthsJudged
     requires { ⌜ endAt (n .entries) (n .suis) (n .months) ≤ length (now file) ⌝ }
     requires { ⌜ Within 2500 year ⌝ }
     requires { ⌜ (pos 12 ≤ℤ size) × (size ≤ℤ pos 13) ⌝ }
@@ -102,7 +103,7 @@ fn months_at(
             day,
             month.handle,
             month.first,
-            month.length,
+            month.size,
         );
         if !walked.good {
             return MonthsJudged {
