@@ -105,7 +105,7 @@ next-ordinary year place h = go (decLt n 12)
     n : ℕ
     n = ordinal place
 
-    go : Dec (n < 12) → cond (isExactly (pos 32 *ℤ year +ℤ pos 24) (pos 32 *ℤ year +ℤ pos (2 * n + 0))) (pos 32 *ℤ year +ℤ pos (2 * n + 0) -ℤ pos 22) (pos 32 *ℤ year +ℤ pos (2 * n + 0) +ℤ pos 2) ≡ pos 32 *ℤ year +ℤ pos (2 * ordinal (place + 1) + 0)
+    go : Dec (n < 12) → handleAfter year (ordinary year place) ≡ ordinary year (place + 1)
     go (yes l) =
         let ρ = year ∷ pos n ∷ [] in
         let other : isExactly (pos 32 *ℤ year +ℤ pos 24) (pos 32 *ℤ year +ℤ pos (2 * n + 0)) ≡ false = not-exactly (pos 32 *ℤ year +ℤ pos 24) (pos 32 *ℤ year +ℤ pos (2 * n + 0)) (λ e. omega (arith, ⇓ ρ e (search ring depth 9))) in
