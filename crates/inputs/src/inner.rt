@@ -1,16 +1,30 @@
 // What builds ask of accepted inputs. The zone is in minutes.
 use series::Body;
 use times::Day;
+use times::Milli;
 use times::Second;
+use whole::inner::floor_div;
+use whole::inner::floor_mod;
+use whole::inner::subtract;
 ghost use mathlib.Core.Path.{_≡_};
-ghost use lib.Signed.{_≤ℤ_, _<ℤ_};
+ghost use lib.IntN.{pos};
+ghost use lib.Signed.{leZ, _≤ℤ_, _<ℤ_};
+ghost use Rattle.whole.specs.Floor.{floorDiv, floorMod};
 ghost use Rattle.whole.specs.Ranges.{Within};
 ghost use Rattle.series.specs.Series.{series};
 ghost use Rattle.marks.specs.Listed.{firstReached, lastReached};
 ghost use Rattle.inputs.specs.Inputs.{dayOfMark};
 ghost use Rattle.inputs.specs.Known.{Ready};
 
-// The day of a listed mark, by its index.
+// Whether so many whole seconds of a millisecond's day have passed.
+fn have_passed(milli: Milli, seconds: i64) -> bool
+    ensures { λ r. ⌜ r ≡ leZ seconds (floorDiv (pos (floorMod (milli .0) 86400000)) 1000) ⌝ }
+{
+    let passed = floor_mod(milli.0, 86400000);
+    seconds <= floor_div(passed, 1000)
+}
+
+// The day of a listed mark, by its index. Two seconds that enclose the mark's tell it where they are of one day; elsewhere the mark is located.
 pub fn day_of_mark(
     leap: &[i64],
     body: Body,
@@ -25,6 +39,11 @@ pub fn day_of_mark(
     requires { ⌜ Within 1000 zone ⌝ }
     ensures { λ r. ⌜ r ≡ dayOfMark (now (leap .entry)) (series body (start .0) (now (coefs .entry))) zone index ⌝ }
 {
+    let near = marks::inner::enclose(body, start, coefs, index);
+    let milli = clock::inner::milli_in(leap, Second(near.by), zone);
+    if have_passed(milli, subtract(near.by, near.after)) {
+        return clock::day_of_milli(milli);
+    }
     let second = marks::inner::locate(body, start, coefs, index);
     clock::inner::day_in(leap, second, zone)
 }
