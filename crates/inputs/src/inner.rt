@@ -3,25 +3,28 @@ use series::Body;
 use times::Day;
 use times::Milli;
 use times::Second;
-use whole::inner::floor_div;
 use whole::inner::floor_mod;
 use whole::inner::subtract;
 ghost use mathlib.Core.Path.{_≡_};
-ghost use lib.IntN.{pos};
+ghost use mathlib.Core.Bool.{_&&_};
+ghost use lib.IntN.{pos, _*ℤ_};
 ghost use lib.Signed.{leZ, _≤ℤ_, _<ℤ_};
-ghost use Rattle.whole.specs.Floor.{floorDiv, floorMod};
+ghost use Rattle.whole.specs.Floor.{floorMod};
 ghost use Rattle.whole.specs.Ranges.{Within};
 ghost use Rattle.series.specs.Series.{series};
 ghost use Rattle.marks.specs.Listed.{firstReached, lastReached};
 ghost use Rattle.inputs.specs.Inputs.{dayOfMark};
 ghost use Rattle.inputs.specs.Known.{Ready};
 
-// Whether so many whole seconds of a millisecond's day have passed.
+// Whether so many seconds of a millisecond's day have passed.
 fn have_passed(milli: Milli, seconds: i64) -> bool
-    ensures { λ r. ⌜ r ≡ leZ seconds (floorDiv (pos (floorMod (milli .0) 86400000)) 1000) ⌝ }
+    requires { ⌜ pos 0 ≤ℤ seconds ⌝ }
+    ensures { λ r. ⌜ r ≡ (leZ seconds (pos 86400) && leZ (pos 1000 *ℤ seconds) (pos (floorMod (milli .0) 86400000))) ⌝ }
 {
-    let passed = floor_mod(milli.0, 86400000);
-    seconds <= floor_div(passed, 1000)
+    if 86400 < seconds {
+        return false;
+    }
+    1000 * seconds <= floor_mod(milli.0, 86400000)
 }
 
 // The day of a listed mark, by its index. Two seconds that enclose the mark's tell it where they are of one day; elsewhere the mark is located.

@@ -9,7 +9,7 @@ use lib.IntN.{ℤ, pos, _+ℤ_, _-ℤ_, _*ℤ_}
 use Rattle.whole.specs.Parts.{_⩽_}
 use Rattle.whole.specs.Laws.{≤-antisymm}
 use Rattle.whole.specs.Booleans.{not-both}
-use Rattle.whole.specs.Floor.{floorDiv, floorMod, floorDiv-ge, floorDiv-low, floorDiv-floorMod}
+use Rattle.whole.specs.Floor.{floorDiv, floorMod, floorDiv-ge, floorDiv-floorMod}
 use Rattle.whole.specs.Solver.{⇑, ⇓, ring}
 use Rattle.times.specs.declared.Second.{Second}
 use Rattle.clock.specs.Leap.{leapLawful, offset, entryUsed}
@@ -49,7 +49,7 @@ module _ (w : List ℤ) (l : leapLawful w ≡ true) (m s : Second) (order : m .0
       let ρ = s .0 ∷ m .0 ∷ a ∷ b ∷ zone ∷ [] in
       ⇑ ρ (search ring depth 12) (omega (arith, ⇓ ρ offsets-in-order (search ring depth 9)))
 
-  pub of-one-day : (zone k : ℤ) → s .0 -ℤ m .0 ⩽ k → k ⩽ floorDiv (pos (floorMod (milliIn w s zone .0) 86400000)) 1000 → dayIn w s zone ≡ dayIn w m zone
+  pub of-one-day : (zone k : ℤ) → s .0 -ℤ m .0 ⩽ k → pos 1000 *ℤ k ⩽ pos (floorMod (milliIn w s zone .0) 86400000) → dayIn w s zone ≡ dayIn w m zone
   unfolding dayIn dayOfMilli
   of-one-day zone k near passed = λ t. record { 0 = sym days t }
     where
@@ -57,9 +57,7 @@ module _ (w : List ℤ) (l : leapLawful w ≡ true) (m s : Second) (order : m .0
       days =
           let q = floorDiv (milliIn w s zone .0) 86400000 in
           let r = floorMod (milliIn w s zone .0) 86400000 in
-          let thousands = floorDiv (pos r) 1000 in
-          let ρ = milliIn w s zone .0 ∷ milliIn w m zone .0 ∷ s .0 ∷ m .0 ∷ k ∷ q ∷ pos r ∷ thousands ∷ [] in
+          let ρ = milliIn w s zone .0 ∷ milliIn w m zone .0 ∷ s .0 ∷ m .0 ∷ k ∷ q ∷ pos r ∷ [] in
           let is = floorDiv-floorMod (milliIn w s zone .0) 86400000 (omega arith) in
-          let low = floorDiv-low (pos r) 1000 (omega arith) in
-          let from : q *ℤ pos 86400000 ⩽ milliIn w m zone .0 = ⇑ ρ (search ring depth 9) (omega (arith, ⇓ ρ is (search ring depth 9), ⇓ ρ low (search ring depth 9), ⇓ ρ near (search ring depth 9), ⇓ ρ passed (search ring depth 9), ⇓ ρ (milli-before zone) (search ring depth 9))) in
+          let from : q *ℤ pos 86400000 ⩽ milliIn w m zone .0 = ⇑ ρ (search ring depth 9) (omega (arith, ⇓ ρ is (search ring depth 9), ⇓ ρ near (search ring depth 9), ⇓ ρ passed (search ring depth 9), ⇓ ρ (milli-before zone) (search ring depth 9))) in
           ≤-antisymm (days-never-go-back w l m s order zone) (floorDiv-ge {z = milliIn w m zone .0} {q = q} 86400000 (omega arith) from)

@@ -1,17 +1,18 @@
 -- `inputs::inner::day_of_mark` meets its contract. Assumes nothing.
 use mathlib.Core.Path.{_≡_, refl, sym, ap, ap₂, _∙_}
-use mathlib.Core.Bool.{true}
+use mathlib.Core.Bool.{true, _&&_}
 use mathlib.Core.List.{List, [], _∷_}
 use native.Mathlib.Omega.{arith}
 use borrow.Author.Needs.{needs}
-use lib.IntN.{ℤ, pos, _-ℤ_}
+use lib.IntN.{ℤ, pos, _-ℤ_, _*ℤ_}
 use lib.Signed.{leZ}
 use mir.Syntax.{w64}
 use mir.Val.{toZ, ofZ}
 use mir.Facts.{toZ-ofZ}
 use Rattle.whole.specs.Parts.{_⩽_}
-use Rattle.whole.specs.Floor.{floorDiv, floorMod}
+use Rattle.whole.specs.Floor.{floorMod}
 use Rattle.whole.specs.Ranges.{Within, fits, bounds, back}
+use Rattle.whole.specs.Booleans.{both}
 use Rattle.whole.specs.Solver.{⇑, ⇓, ring, le-yes}
 use Rattle.times.specs.declared.Second.{Second}
 use Rattle.times.specs.declared.Milli.{Milli}
@@ -75,6 +76,10 @@ day-read : (leap : List ℤ) (s : Second) (zone : ℤ) → dayOfMilli (milliIn l
 unfolding dayIn
 day-read leap s zone = refl
 
+-- the seconds between the two
+gap : (c : tie.After-struct-told3) (d : ℤ) → (let near = c .before .before .before .before in d ≡ toZ w64 (ofZ w64 (near .enclose .result .by)) -ℤ toZ w64 (ofZ w64 (near .enclose .result .after)) → d ≡ near .enclose .result .by -ℤ near .enclose .result .after)
+gap c d e = let near = c .before .before .before .before in rw (at-by (c .before .before .before), back (near .enclose .result .after) (c .struct-told3 .given .0 .1)) at e
+
 -- ---- the needs
 enclose-requires : tie.Need-enclose-requires
 enclose-requires c κs = search needs
@@ -90,7 +95,12 @@ subtract-requires c κs =
     rw (at-by (c .before .before .before), back (near .enclose .result .after) (c .struct-told3 .given .0 .1)) (fits (search bounds) tt)
 
 have-passed-requires : tie.Need-have-passed-requires
-have-passed-requires c κs = search needs
+have-passed-requires c κs =
+    let near = c .before .before .before .before .before in
+    let start = near .before in
+    let ρ = near .enclose .result .by ∷ near .enclose .result .after ∷ secondOfMark (series-of start) (start .args .index) ∷ [] in
+    rw (back (c .subtract .result) (c .subtract .ok), gap (c .before) (c .subtract .result) (c .subtract .ensures))
+    (⇑ ρ (search ring depth 9) (omega (arith, ⇓ ρ (enclosed near .comes-after) (search ring depth 9), ⇓ ρ (enclosed near .comes-by) (search ring depth 9))))
 
 day-of-milli-requires : tie.Need-day-of-milli-requires
 day-of-milli-requires c κs = search needs
@@ -107,10 +117,11 @@ returns c =
     let zone = start .args .zone in
     let after = near .enclose .result .after in
     let by = near .enclose .result .by in
-    let k : taken .subtract .result ≡ by -ℤ after = rw (at-by (read .before), back after (taken .before .struct-told3 .given .0 .1)) at (taken .subtract .ensures) in
-    let test : told .have-passed .result ≡ leZ (by -ℤ after) (floorDiv (pos (floorMod (milliIn leap (by-of near) zone .0) 86400000)) 1000) =
-    (rw (back (taken .subtract .result) (taken .subtract .ok)) at (told .have-passed .ensures)) ∙ ap₂ (λ (z : ℤ) (m : Milli). leZ z (floorDiv (pos (floorMod (m .0) 86400000)) 1000)) k (milli-is read) in
-    let passed : by -ℤ after ⩽ floorDiv (pos (floorMod (milliIn leap (by-of near) zone .0) 86400000)) 1000 = le-yes (sym test ∙ c .before .if1 .taken) in
+    let k : taken .subtract .result ≡ by -ℤ after = gap (taken .before) (taken .subtract .result) (taken .subtract .ensures) in
+    let rest = floorMod (milliIn leap (by-of near) zone .0) 86400000 in
+    let test : told .have-passed .result ≡ (leZ (by -ℤ after) (pos 86400) && leZ (pos 1000 *ℤ (by -ℤ after)) (pos rest)) =
+    (rw (back (taken .subtract .result) (taken .subtract .ok)) at (told .have-passed .ensures)) ∙ ap₂ (λ (z : ℤ) (m : Milli). leZ z (pos 86400) && leZ (pos 1000 *ℤ z) (pos (floorMod (m .0) 86400000))) k (milli-is read) in
+    let passed : pos 1000 *ℤ (by -ℤ after) ⩽ pos rest = le-yes (both (leZ (by -ℤ after) (pos 86400)) (leZ (pos 1000 *ℤ (by -ℤ after)) (pos rest)) (sym test ∙ c .before .if1 .taken) .1) in
     let ρ = by ∷ after ∷ secondOfMark (series-of start) (start .args .index) ∷ [] in
     let close : by -ℤ secondOfMark (series-of start) (start .args .index) ⩽ by -ℤ after = ⇑ ρ (search ring depth 9) (omega (arith, ⇓ ρ (enclosed near .comes-after) (search ring depth 9))) in
     c .day-of-milli .ensures ∙ ap dayOfMilli (milli-is read) ∙ day-read leap (by-of near) zone
