@@ -6,3 +6,4 @@ pub mod Sections
 pub mod Checked
 pub mod Reader
 pub mod Writer
+pub mod Records

@@ -1,18 +1,31 @@
-// Whether the words of three lists are a lawful content: suis, then months, one pass each. Sums are made only of numbers that were judged.
-use crate::suimonths::good_months;
+// Judging what a file holds: a sui and a month by their numbers, for walks over lists and over bytes; and the words of three lists.
+use crate::listed::suis_listed;
+use crate::month::good_days;
+use crate::month::handle_after;
+use crate::month::leap_handle;
+use crate::month::stopped;
+use months::inner::month_of;
 use whole::inner::add;
-use whole::inner::count;
 use whole::inner::in_range;
 ghost use mathlib.Core.Path.{_≡_};
-ghost use mathlib.Core.Bool.{true};
-ghost use Prim.Native.Nat.{_+_, _*_, _/_, _≤_, _<_};
-ghost use lib.IntN.{pos, natAbs, _+ℤ_, _-ℤ_};
-ghost use lib.ListN.{length};
-ghost use Rattle.whole.specs.Below.{every};
+ghost use Prim.Native.Nat.{_-_, _≤_, _<_};
 ghost use Rattle.whole.specs.Ranges.{Within};
-ghost use Rattle.whole.specs.Tests.{isExactly};
-ghost use Rattle.content.specs.Content.{content, monthsBefore, wholeSuis, followsYear, goodSui, goodSuiMonths, lawful};
-ghost use Rattle.content.specs.theory.Judged.{YearsSmall};
+ghost use Rattle.content.specs.Content.{content, wholeSuis, lawful};
+ghost use Rattle.content.specs.Steps.{ordinary, suiAfter, walkedOn};
+
+// Where a walk over the months of a sui stands: whether all so far are good, how many of them are leap months, the handle of the next ordinary one, and the day on which the next must begin.
+pub struct Walked {
+    pub good: bool,
+    pub leaps: usize,
+    pub next: i64,
+    pub due: i64,
+}
+
+// How the months of a sui were judged, and the day on which the next sui must begin.
+pub struct MonthsJudged {
+    pub good: bool,
+    pub due: i64,
+}
 
 // 1 to 128 suis in whole records, by the number of words.
 fn whole_suis(words: usize) -> bool
@@ -27,92 +40,68 @@ fn whole_suis(words: usize) -> bool
     words <= 256
 }
 
-// Whether z is the sum of a and b.
-pub fn is_sum(a: i64, b: i64, z: i64) -> bool
-    requires { ⌜ Within 1000000 a ⌝ }
-    requires { ⌜ Within 1000000 b ⌝ }
-    ensures { λ r. ⌜ r ≡ isExactly (a +ℤ b) z ⌝ }
+// A sui that must have the year `due`: its year, and 12 or 13 months.
+pub fn good_sui(due: i64, year: i64, months: i64) -> bool
+    ensures { λ r. ⌜ r ≡ suiAfter due year months ⌝ }
 {
-    let sum = add(a, b);
-    in_range(sum, sum, z)
-}
-
-// Whether the year of sui i is one more than the year before it, which was judged.
-fn follows_year(suis: &[i64], i: usize) -> bool
-    requires { ⌜ 2 * i + 1 < length (now suis) ⌝ }
-    requires { ⌜ YearsSmall (now suis) i ⌝ }
-    ensures { λ r. ⌜ r ≡ followsYear (now (suis .entry)) i ⌝ }
-{
-    if i == 0 {
-        return true;
-    }
-    is_sum(suis[2 * i - 2], 1, suis[2 * i])
-}
-
-// Sui i: its year, and 12 or 13 months.
-fn good_sui(suis: &[i64], i: usize) -> bool
-    requires { ⌜ 2 * i + 1 < length (now suis) ⌝ }
-    requires { ⌜ YearsSmall (now suis) i ⌝ }
-    ensures { λ r. ⌜ r ≡ goodSui (now (suis .entry)) i ⌝ }
-{
-    let year = suis[2 * i];
     if !in_range(1700, 2500, year) {
         return false;
     }
-    if !follows_year(suis, i) {
+    if !in_range(due, due, year) {
         return false;
     }
-    in_range(12, 13, suis[2 * i + 1])
+    in_range(12, 13, months)
 }
 
-// How the suis were judged, and how many months they have.
-pub struct SuisJudged {
-    pub good: bool,
-    pub months: usize,
-}
-
-// Every sui, one after another.
-fn judge_suis(suis: &[i64]) -> SuisJudged
-    requires { ⌜ length (now suis) ≤ 256 ⌝ }
-    ensures { λ r. ⌜ r .good ≡ every (goodSui (now (suis .entry))) (length (now (suis .entry)) / 2) ⌝ }
-    ensures { λ r. ⌜ (r .good ≡ true → r .months ≡ monthsBefore (now (suis .entry)) (length (now (suis .entry)) / 2)) ⌝ }
+// The handle of the first month of a sui.
+pub fn first_handle(year: i64) -> i64
+    requires { ⌜ Within 2500 year ⌝ }
+    ensures { λ r. ⌜ r ≡ ordinary year 0 ⌝ }
 {
-    let n = suis.len() / 2;
-    let mut i = 0;
-    let mut months = 0;
-    while i < n {
-        if !good_sui(suis, i) {
-            return SuisJudged {
-                good: false,
-                months: 0,
-            };
-        }
-        months += count(suis[2 * i + 1]);
-        i += 1;
-    }
-    SuisJudged { good: true, months }
+    let month = month_of(year, 13, 0, 0, 0);
+    month.handle
 }
 
-// The months of every sui, one after another.
-fn judge_months(suis: &[i64], months: &[i64]) -> bool
-    requires { ⌜ length (now suis) ≤ 256 ⌝ }
-    requires { ⌜ every (goodSui (now suis)) (length (now suis) / 2) ≡ true ⌝ }
-    requires { ⌜ length (now months) ≡ 3 * monthsBefore (now suis) (length (now suis) / 2) ⌝ }
-    ensures { λ r. ⌜ r ≡ every (goodSuiMonths (now (suis .entry)) (now (months .entry))) (length (now (suis .entry)) / 2) ⌝ }
+// One month more. `next` is the handle of an ordinary month here, `due` the day on which the month must begin.
+pub fn judge_month(
+    year: i64,
+    months: i64,
+    place: usize,
+    leaps: usize,
+    next: i64,
+    due: i64,
+    handle: i64,
+    first: i64,
+    size: i64,
+) -> Walked
+    requires { ⌜ Within 2500 year ⌝ }
+    requires { ⌜ place < 13 ⌝ }
+    requires { ⌜ leaps ≤ place ⌝ }
+    requires { ⌜ next ≡ ordinary year (place - leaps) ⌝ }
+    requires { ⌜ Within 1000000 due ⌝ }
+    ensures { λ r. ⌜ r ≡ walkedOn year months leaps place due handle first size ⌝ }
 {
-    let n = suis.len() / 2;
-    let mut i = 0;
-    let mut from = 0;
-    while i < n {
-        let year = suis[2 * i];
-        let size = suis[2 * i + 1];
-        if !good_months(months, year, size, from) {
-            return false;
-        }
-        from += count(size);
-        i += 1;
+    if !good_days(due, first, size) {
+        return stopped();
     }
-    true
+    let behind = add(first, size);
+    if in_range(next, next, handle) {
+        return Walked {
+            good: true,
+            leaps,
+            next: handle_after(year, next),
+            due: behind,
+        };
+    }
+    if !leap_handle(year, months, leaps, place, handle) {
+        return stopped();
+    }
+    Walked {
+        good: true,
+        leaps: leaps + 1,
+        next,
+        due: behind,
+    }
 }
 
 // Whether the words of three lists are a lawful content.
@@ -125,13 +114,5 @@ pub fn is_lawful(leap: &[i64], suis: &[i64], months: &[i64]) -> bool
     if !whole_suis(suis.len()) {
         return false;
     }
-    let judged = judge_suis(suis);
-    if !judged.good {
-        return false;
-    }
-    let size = 3 * judged.months;
-    if months.len() != size {
-        return false;
-    }
-    judge_months(suis, months)
+    suis_listed(suis, months)
 }

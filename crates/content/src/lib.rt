@@ -1,3 +1,4 @@
 // What an almanac file holds, and which contents are lawful.
 pub mod inner;
-mod suimonths;
+mod listed;
+mod month;

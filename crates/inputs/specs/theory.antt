@@ -1,3 +1,4 @@
 pub mod Early
 pub mod Converted
 pub mod First
+pub mod OneDay

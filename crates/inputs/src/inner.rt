@@ -1,16 +1,33 @@
 // What builds ask of accepted inputs. The zone is in minutes.
 use series::Body;
 use times::Day;
+use times::Milli;
 use times::Second;
+use whole::inner::floor_mod;
+use whole::inner::subtract;
 ghost use mathlib.Core.Path.{_≡_};
-ghost use lib.Signed.{_≤ℤ_, _<ℤ_};
+ghost use mathlib.Core.Bool.{_&&_};
+ghost use lib.IntN.{pos, _*ℤ_};
+ghost use lib.Signed.{leZ, _≤ℤ_, _<ℤ_};
+ghost use Rattle.whole.specs.Floor.{floorMod};
 ghost use Rattle.whole.specs.Ranges.{Within};
 ghost use Rattle.series.specs.Series.{series};
 ghost use Rattle.marks.specs.Listed.{firstReached, lastReached};
 ghost use Rattle.inputs.specs.Inputs.{dayOfMark};
 ghost use Rattle.inputs.specs.Known.{Ready};
 
-// The day of a listed mark, by its index.
+// Whether so many seconds of a millisecond's day have passed.
+fn have_passed(milli: Milli, seconds: i64) -> bool
+    requires { ⌜ pos 0 ≤ℤ seconds ⌝ }
+    ensures { λ r. ⌜ r ≡ (leZ seconds (pos 86400) && leZ (pos 1000 *ℤ seconds) (pos (floorMod (milli .0) 86400000))) ⌝ }
+{
+    if 86400 < seconds {
+        return false;
+    }
+    1000 * seconds <= floor_mod(milli.0, 86400000)
+}
+
+// The day of a listed mark, by its index. Two seconds that enclose the mark's tell it where they are of one day; elsewhere the mark is located.
 pub fn day_of_mark(
     leap: &[i64],
     body: Body,
@@ -25,6 +42,11 @@ pub fn day_of_mark(
     requires { ⌜ Within 1000 zone ⌝ }
     ensures { λ r. ⌜ r ≡ dayOfMark (now (leap .entry)) (series body (start .0) (now (coefs .entry))) zone index ⌝ }
 {
+    let near = marks::inner::enclose(body, start, coefs, index);
+    let milli = clock::inner::milli_in(leap, Second(near.by), zone);
+    if have_passed(milli, subtract(near.by, near.after)) {
+        return clock::day_of_milli(milli);
+    }
     let second = marks::inner::locate(body, start, coefs, index);
     clock::inner::day_in(leap, second, zone)
 }

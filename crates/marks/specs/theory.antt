@@ -6,3 +6,4 @@ pub mod ExactSum
 pub mod Words
 pub mod Answered
 pub mod Nth
+pub mod Slope

@@ -15,7 +15,7 @@ ghost use Rattle.series.specs.Bodies.{numbers};
 ghost use Rattle.series.specs.Series.{series, InSpan};
 ghost use Rattle.series.specs.Acceptance.{Accepted};
 ghost use Rattle.marks.specs.Listed.{listedMarks, reachedAt, firstReached, lastReached, secondOfMark};
-ghost use Rattle.marks.specs.Stretch.{BracketOf, Around};
+ghost use Rattle.marks.specs.Stretch.{BracketOf, Around, Enclosed};
 ghost use Rattle.marks.specs.Answers.{markOf, noMark};
 
 // How many units a mark is.
@@ -179,6 +179,41 @@ pub fn locate(body: Body, start: Second, coefs: &[i64], index: i64) -> Second
     let there = looks::look(body, start, coefs, index, span, near.at);
     let mark = looks::thought(body, near, there);
     confirm(body, start, coefs, index, there, mark)
+}
+
+// Two seconds: a mark's comes after the first, and by the second.
+pub struct Enclosing {
+    pub after: i64,
+    pub by: i64,
+}
+
+// Encloses the second of a listed mark, by its index, with one look where the coefficients say. That is enough to tell the day of most marks.
+pub fn enclose(body: Body, start: Second, coefs: &[i64], index: i64) -> Enclosing
+    requires { ⌜ Accepted (series body (start .0) (now coefs)) ⌝ }
+    requires { ⌜ firstReached (series body (start .0) (now coefs)) <ℤ index ⌝ }
+    requires { ⌜ index ≤ℤ lastReached (series body (start .0) (now coefs)) ⌝ }
+    ensures { λ r. ⌜ Enclosed (series body (start .0) (now (coefs .entry))) index (r .after) (r .by) ⌝ }
+{
+    let target = mark_value(body, index);
+    let near = looks::second_for(body, start, coefs, target);
+    let at = near.at;
+    let value = series::inner::value(body, start, coefs, Second(at));
+    let on = whole::inner::add(at, looks::seconds_on(target, value));
+    if target <= value {
+        return Enclosing {
+            after: whole::inner::subtract(on, 1),
+            by: at,
+        };
+    }
+    let last = series::inner::last_second(body, start, coefs);
+    let end = last.0;
+    if end <= on {
+        return Enclosing { after: at, by: end };
+    }
+    Enclosing {
+        after: at,
+        by: whole::inner::add(on, 1),
+    }
 }
 
 // A listed mark: its index and its second.

@@ -4,8 +4,9 @@ use series::Body;
 use times::Second;
 ghost use mathlib.Core.Path.{_≡_};
 ghost use Prim.Native.Nat.{_<_, _≤_};
-ghost use lib.IntN.{pos};
+ghost use lib.IntN.{pos, _-ℤ_};
 ghost use lib.Signed.{_<ℤ_};
+ghost use Rattle.whole.specs.Floor.{floorDiv};
 ghost use Rattle.whole.specs.Ranges.{Within};
 ghost use Rattle.guess.specs.Sizes.{Aim};
 ghost use Rattle.series.specs.Series.{series, segments, InSpan, lastSecond};
@@ -168,4 +169,14 @@ pub fn thought(body: Body, near: Near, there: Looked) -> i64
 {
     let half = series::inner::half_length(body);
     guess::inner::ahead(near.at, there.under, half, near.slope)
+}
+
+// How many seconds ahead of a look the mark lies at most, or behind it if the value has reached it: each second rises by 37 units at least.
+pub fn seconds_on(target: i64, value: i64) -> i64
+    requires { ⌜ Within 2000000000000000 target ⌝ }
+    requires { ⌜ Within 2000000000000000 value ⌝ }
+    ensures { λ r. ⌜ r ≡ floorDiv (target -ℤ value) 37 ⌝ }
+{
+    let under = whole::inner::subtract(target, value);
+    whole::inner::floor_div(under, 37)
 }

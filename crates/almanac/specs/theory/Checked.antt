@@ -2,22 +2,27 @@
 use mathlib.Core.Path.{_≡_, refl, sym, ap, _∙_}
 use mathlib.Core.Bool.{Bool, true, false, _||_}
 use mathlib.Core.List.{List, _++_}
-use Prim.Native.Nat.{ℕ, _+_, _*_, _/_, _≤_, _<_}
+use Prim.Native.Nat.{ℕ, _+_, _*_, _/_, _%_, _≤_, _<_}
 use native.Mathlib.Omega.{arith}
 use native.Mathlib.Nat.{mul-div-cancel-left}
-use lib.Dec.{ltb}
+use borrow.Author.Tests.{eq-eqb, le-leb}
+use lib.Dec.{eqb, leb, ltb}
 use lib.IntN.{ℤ}
 use lib.ListN.{length, take, drop}
 use lib.Seq.{take-at}
 use Rattle.refusals.specs.Verdict.{Verdict, answered, refused}
+use Rattle.whole.specs.Booleans.{both-hold}
+use Rattle.clock.specs.Leap.{leapLawful}
 use Rattle.clock.specs.theory.Table.{few}
 use Rattle.almanac.specs.declared.Counts.{Counts}
-use Rattle.content.specs.Content.{Content, content, entryCount, suiCount, monthCount, lawful}
+use Rattle.content.specs.Content.{Content, entryCount, suiCount, monthCount, wholeSuis, lawful}
+use Rattle.content.specs.Steps.{suisLawful}
+use Rattle.content.specs.theory.Walk.{leap-broken, suis-decide}
 use Rattle.almanac.specs.Fields.{Field, times, numbersIn}
 use Rattle.almanac.specs.Layout.{entryFields, suiFields, monthFields, suisAt, monthsAt, countsOf, contentAt, contentOf, fileOf}
 use Rattle.almanac.specs.Answers.{countsIn, checkedFile}
 use Rattle.almanac.specs.theory.FieldLaws.{numbers-length, length-times}
-use Rattle.almanac.specs.theory.Rules.{Rules, rules, few-suis, months-few}
+use Rattle.almanac.specs.theory.Rules.{Rules, rules, some-sui, few-suis}
 
 -- ---- which lent list is too short for its section
 abbrev pub shortFor : Counts → ℕ → ℕ → ℕ → Bool
@@ -61,17 +66,6 @@ module _ (file : List ℕ) (n : Counts) where
   unfolding contentAt
   leap-read rest last = section-read (n .entries) (2 * n .entries) entryFields file 4 rest last refl
 
-  pub suis-read : (rest last : List ℤ) → last ≡ numbersIn (times (n .suis) suiFields) file (suisAt (n .entries) + 4) ++ drop (2 * n .suis) rest → take (2 * n .suis) last ≡ contentAt file n .suis
-  unfolding contentAt
-  suis-read rest last = section-read (n .suis) (2 * n .suis) suiFields file (suisAt (n .entries) + 4) rest last refl
-
-  pub months-read : (rest last : List ℤ) → last ≡ numbersIn (times (n .months) monthFields) file (monthsAt (n .entries) (n .suis) + 4) ++ drop (3 * n .months) rest → take (3 * n .months) last ≡ contentAt file n .months
-  unfolding contentAt
-  months-read rest last = section-read (n .months) (3 * n .months) monthFields file (monthsAt (n .entries) (n .suis) + 4) rest last refl
-
-  pub judged-at : (leap suis months : List ℤ) → leap ≡ contentAt file n .leap → suis ≡ contentAt file n .suis → months ≡ contentAt file n .months → lawful (content leap suis months) ≡ lawful (contentAt file n)
-  judged-at leap suis months a b d = rw (a, b, d)
-
   -- ---- a lawful content is small
   unlawful : (lawful (contentAt file n) ≡ true → ⊥) → false ≡ lawful (contentAt file n)
   unlawful f = go (lawful (contentAt file n)) refl
@@ -86,8 +80,19 @@ module _ (file : List ℕ) (n : Counts) where
   pub too-many-suis : 128 < n .suis → false ≡ lawful (contentAt file n)
   too-many-suis h = unlawful (λ e. omega (arith, sui-count, few-suis (contentAt file n) (rules (contentAt file n) e)))
 
-  pub too-many-months : 1664 < n .months → false ≡ lawful (contentAt file n)
-  too-many-months h = unlawful (λ e. omega (arith, month-count, months-few (contentAt file n) (rules (contentAt file n) e)))
+  pub no-suis : n .suis < 1 → false ≡ lawful (contentAt file n)
+  no-suis h = unlawful (λ e. omega (arith, sui-count, some-sui (contentAt file n) (rules (contentAt file n) e)))
+
+  -- ---- the rules of a file whose counts may be lawful
+  pub table-broken : leapLawful (contentAt file n .leap) ≡ false → false ≡ lawful (contentAt file n)
+  table-broken e = leap-broken (contentAt file n .leap) (contentAt file n .suis) (contentAt file n .months) e
+
+  pub suis-decide-file : 1 ≤ n .suis → n .suis ≤ 128 → leapLawful (contentAt file n .leap) ≡ true → suisLawful (contentAt file n .suis) (contentAt file n .months) ≡ lawful (contentAt file n)
+  unfolding wholeSuis
+  suis-decide-file some few table = suis-decide (contentAt file n .leap) (contentAt file n .suis) (contentAt file n .months) table whole
+    where
+      whole : wholeSuis (length (contentAt file n .suis)) ≡ true
+      whole = rw suis-of (both-hold _ _ (eq-eqb (2 * n .suis % 2) 0 (omega arith)) (both-hold _ _ (le-leb 2 (2 * n .suis) (omega arith)) (le-leb (2 * n .suis) 256 (omega arith))))
 
   -- ---- the check
   pub file-lawful : answered n ≡ countsOf file → lawful (contentAt file n) ≡ true → answered n ≡ checkedFile file
