@@ -1,2 +1,1 @@
-// One segment of a series: the value at a place, and how fast a segment rises. Definitions and theorems are in `specs/`.
-pub mod inner;
+// One segment of a series on paper: definitions, examples and theorems, in `specs/`. The functions are those of `evaluator`. Nothing here runs.

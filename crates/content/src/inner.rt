@@ -4,7 +4,7 @@ use crate::month::good_days;
 use crate::month::handle_after;
 use crate::month::leap_handle;
 use crate::month::stopped;
-use months::inner::month_of;
+use month_rule::inner::month_of;
 use whole::inner::add;
 use whole::inner::in_range;
 ghost use mathlib.Core.Path.{_≡_};
@@ -108,7 +108,7 @@ pub fn judge_month(
 pub fn is_lawful(leap: &[i64], suis: &[i64], months: &[i64]) -> bool
     ensures { λ r. ⌜ r ≡ lawful (content (now (leap .entry)) (now (suis .entry)) (now (months .entry))) ⌝ }
 {
-    if !clock::inner::leap_lawful(leap) {
+    if !conversion::inner::leap_lawful(leap) {
         return false;
     }
     if !whole_suis(suis.len()) {

@@ -1,7 +1,7 @@
 // The parts of judging a month: its days, its handle, and the handle that comes after it.
 use crate::inner::Walked;
 use dates::inner::has_date;
-use months::inner::month_of;
+use month_rule::inner::month_of;
 use times::Day;
 use whole::inner::add;
 use whole::inner::in_range;

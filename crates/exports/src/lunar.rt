@@ -49,7 +49,7 @@ pub extern "C" fn hzk_months_of(
     ensures { λ r. ⌜ now (answer .exit) ≡ recordOf (suiInto (monthsOf year (now (moons .entry)) (now (zhongqi .entry))) (length (now (months .entry)))) suiNumbers ⌝ }
     ensures { λ r. ⌜ now (months .exit) ≡ writtenInto (suiInto (monthsOf year (now (moons .entry)) (now (zhongqi .entry))) (length (now (months .entry)))) suiWords (now (months .entry)) ⌝ }
 {
-    let stored = store(months::months_of(year, moons, zhongqi), months);
+    let stored = store(month_rule::months_of(year, moons, zhongqi), months);
     record::tell(stored, answer)
 }
 
@@ -69,7 +69,7 @@ pub extern "C" fn hzk_sui(
     ensures { λ r. ⌜ now (answer .exit) ≡ recordOf (suiInto (suiFor (inputs (now (leap .entry)) sunstart (now (sun .entry)) moonstart (now (moon .entry))) utc8 year) (length (now (months .entry)))) suiNumbers ⌝ }
     ensures { λ r. ⌜ now (months .exit) ≡ writtenInto (suiInto (suiFor (inputs (now (leap .entry)) sunstart (now (sun .entry)) moonstart (now (moon .entry))) utc8 year) (length (now (months .entry)))) suiWords (now (months .entry)) ⌝ }
 {
-    let found = sui::sui(leap, Second(sunstart), sun, Second(moonstart), moon, year);
+    let found = one_sui::sui(leap, Second(sunstart), sun, Second(moonstart), moon, year);
     let stored = store(found, months);
     record::tell(stored, answer)
 }

@@ -60,7 +60,7 @@ pub extern "C" fn hzk_count_marks(
     ensures { λ r. ⌜ now (answer .exit) ≡ recordOf (countedMarks (series (bodyOf moon) start (now (coefs .entry)))) countNumbers ⌝ }
 {
     record::tell(
-        record::count_record(marks::count_marks(body_of(moon), Second(start), coefs)),
+        record::count_record(finder::count_marks(body_of(moon), Second(start), coefs)),
         answer,
     )
 }
@@ -78,7 +78,7 @@ pub extern "C" fn hzk_list_marks(
     ensures { λ r. ⌜ now (answer .exit) ≡ recordOf (listedInto (series (bodyOf moon) start (now (coefs .entry))) (length (now (marks .entry)))) countNumbers ⌝ }
     ensures { λ r. ⌜ now (marks .exit) ≡ writtenInto (listedInto (series (bodyOf moon) start (now (coefs .entry))) (length (now (marks .entry)))) (wordsListed (series (bodyOf moon) start (now (coefs .entry)))) (now (marks .entry)) ⌝ }
 {
-    let listed = marks::list_marks(body_of(moon), Second(start), coefs, marks);
+    let listed = finder::list_marks(body_of(moon), Second(start), coefs, marks);
     record::tell(record::list_record(listed), answer)
 }
 

@@ -39,7 +39,10 @@ pub extern "C" fn hzk_judge_leap_table(leap: &[i64], answer: &mut [i64; 9]) -> i
     ensures { λ r. ⌜ r ≡ numberOf (leapJudged (now (leap .entry))) ⌝ }
     ensures { λ r. ⌜ now (answer .exit) ≡ recordOf (leapJudged (now (leap .entry))) noNumbers ⌝ }
 {
-    record::tell(record::check_record(clock::judge_leap_table(leap)), answer)
+    record::tell(
+        record::check_record(conversion::judge_leap_table(leap)),
+        answer,
+    )
 }
 
 // The UTC+8 millisecond of a second.
@@ -49,7 +52,7 @@ pub extern "C" fn hzk_milli_of(leap: &[i64], second: i64, answer: &mut [i64; 9])
     ensures { λ r. ⌜ now (answer .exit) ≡ recordOf (milliOf (now (leap .entry)) (record { 0 = second })) milliNumbers ⌝ }
 {
     record::tell(
-        record::milli_record(clock::milli_of(leap, Second(second))),
+        record::milli_record(conversion::milli_of(leap, Second(second))),
         answer,
     )
 }
@@ -61,7 +64,7 @@ pub extern "C" fn hzk_day_of_second(leap: &[i64], second: i64, answer: &mut [i64
     ensures { λ r. ⌜ now (answer .exit) ≡ recordOf (dayOfSecond (now (leap .entry)) (record { 0 = second })) dayNumbers ⌝ }
 {
     record::tell(
-        record::day_record(clock::day_of_second(leap, Second(second))),
+        record::day_record(conversion::day_of_second(leap, Second(second))),
         answer,
     )
 }
@@ -73,7 +76,7 @@ pub extern "C" fn hzk_day_of_milli(milli: i64, answer: &mut [i64; 9]) -> i64
     ensures { λ r. ⌜ now (answer .exit) ≡ recordOf (answered (dayOfMilli (record { 0 = milli }))) dayNumbers ⌝ }
 {
     record::tell(
-        record::day_record(DayAnswer::Found(clock::day_of_milli(Milli(milli)))),
+        record::day_record(DayAnswer::Found(conversion::day_of_milli(Milli(milli)))),
         answer,
     )
 }
@@ -85,7 +88,7 @@ pub extern "C" fn hzk_shown(leap: &[i64], second: i64, answer: &mut [i64; 9]) ->
     ensures { λ r. ⌜ now (answer .exit) ≡ recordOf (shownOf (now (leap .entry)) (record { 0 = second })) shownNumbers ⌝ }
 {
     record::tell(
-        record::shown_record(clock::shown(leap, Second(second))),
+        record::shown_record(conversion::shown(leap, Second(second))),
         answer,
     )
 }

@@ -1,22 +1,12 @@
--- What is read off the named forms: a series and a build's inputs off the struct of start and coefficients, and a sui's months stored into a lent list of records: its
--- own refusal, then 12 where the list has fewer places than there are records. Assumes nothing: these are definitions.
+-- What is read off the named form of a series, the struct of start and coefficients: a series, and a build's inputs. Assumes nothing: these are definitions.
 use mathlib.Core.List.{List}
-use Prim.Native.Nat.{ℕ}
-use lib.Dec.{ltb}
 use lib.IntN.{ℤ}
-use lib.ListN.{length, take}
 use denote.Ref.{now}
-use Rattle.refusals.specs.Verdict.{Verdict, answered, refused, refusal, refuseWhen, _before_, _then_}
 use Rattle.series.specs.declared.Body.{Body}
 use Rattle.series.specs.Series as paper
 use Rattle.inputs.specs.Inputs.{Inputs, inputs}
-use Rattle.months.specs.declared.Month.{Month}
-use Rattle.months.specs.declared.Sui.{Sui}
 use Rattle.forms.specs.declared.Series.{Series}
-use Rattle.forms.specs.declared.records.MonthsAnswer.{MonthsAnswer}
-use Rattle.forms.specs.declared.records.MonthsAnswer.the-variants as months-answer
 
--- ---- a series
 -- a body's series
 abbrev pub seriesOf : Body → Series → paper.Series
 seriesOf body s = paper.series body (s .start .0) (now (s .coefs))
@@ -24,28 +14,3 @@ seriesOf body s = paper.series body (s .start .0) (now (s .coefs))
 -- a build's inputs: the leap table, the Sun and the Moon
 abbrev pub inputsOf : List ℤ → Series → Series → Inputs
 inputsOf leap sun moon = inputs leap (sun .start .0) (now (sun .coefs)) (moon .start .0) (now (moon .coefs))
-
--- ---- months in a lent list
-abbrev pub paperMonths : MonthsAnswer → Verdict ℕ
-paperMonths (months-answer.Months n) = answered n
-paperMonths (months-answer.Refused r) = refusal r
-
--- the records of a sui
-abbrev pub recordsOf : Sui → List Month
-recordsOf sui = take (sui .count) (sui .months)
-
--- what is stored into so many places
-unfoldable pub recordsInto : Verdict Sui → ℕ → Verdict (List Month)
-recordsInto found room = found then (λ sui. refuseWhen (ltb room (length (recordsOf sui))) 12 before answered (recordsOf sui))
-
-abbrev pub all-records : List Month → List Month
-all-records records = records
-
--- how many records are stored
-abbrev pub recordsCounted : Verdict (List Month) → Verdict ℕ
-recordsCounted v = v then (λ records. answered (length records))
-
--- the number that is answered, none after a refusal
-abbrev pub countIn : Verdict ℕ → ℕ
-countIn (answered n) = n
-countIn (refused number segment) = 0

@@ -1,4 +1,2 @@
 pub mod Forms
 pub mod OneResult
-pub mod Theorems
-pub mod Examples

@@ -1,11 +1,11 @@
 -- "any two results allowed are shown to be the same result": for each entry point of this crate, and for the lent lists. Assumes nothing.
-use mathlib.Core.Path.{_≡_, sym, ap, _∙_}
+use mathlib.Core.Path.{_≡_, sym, _∙_}
 use mathlib.Core.List.{List}
 use Prim.Native.Nat.{ℕ}
 use lib.IntN.{ℤ}
 use lib.ListN.{length}
 use denote.Ref.{RefT}
-use Rattle.refusals.specs.Verdict.{Verdict, OneToOne, one-result, one-content, paperCheck, answers-apart, refusals-apart, answer-or-refusal}
+use Rattle.refusals.specs.Verdict.{paperCheck}
 use Rattle.refusals.specs.Lent.{writtenInto}
 use Rattle.refusals.specs.declared.Check.{Check}
 use Rattle.times.specs.declared.Second.{Second}
@@ -18,23 +18,22 @@ use Rattle.marks.specs.declared.CountAnswer.{CountAnswer}
 use Rattle.marks.specs.declared.ListAnswer.{ListAnswer}
 use Rattle.marks.specs.Answers.{paperCount, paperList, countedMarks, listedInto, wordsListed}
 use Rattle.marks.specs.OneResult as of-marks
-use Rattle.inputs.specs.Inputs.{Inputs, inputsJudged}
+use Rattle.inputs.specs.Inputs.{inputsJudged}
 use Rattle.inputs.specs.Theorems as of-inputs
 use Rattle.months.specs.declared.Month.{Month}
-use Rattle.months.specs.declared.Sui.{Sui}
 use Rattle.months.specs.declared.SuiAnswer.{SuiAnswer}
-use Rattle.months.specs.Limits.{monthsOf}
-use Rattle.months.specs.Answers.{suiAnswer, paperSui}
+use Rattle.months.specs.Answers.{suiAnswer}
 use Rattle.sui.specs.Sui.{suiFor}
 use Rattle.sui.specs.Theorems as of-sui
 use Rattle.almanac.specs.declared.WriteAnswer.{WriteAnswer}
 use Rattle.almanac.specs.Answers.{paperWritten, all-bytes}
 use Rattle.build.specs.Build.{bytesBuilt, fileBuilt}
 use Rattle.build.specs.Theorems as of-build
+use Rattle.records.specs.declared.MonthsAnswer.{MonthsAnswer}
+use Rattle.records.specs.Records.{paperMonths, recordsInto, all-records, recordsCounted}
+use Rattle.records.specs.OneResult as of-records
 use Rattle.forms.specs.declared.Series.{Series}
-use Rattle.forms.specs.declared.records.MonthsAnswer.{MonthsAnswer}
-use Rattle.forms.specs.declared.records.MonthsAnswer.the-variants as months-answer
-use Rattle.forms.specs.Forms.{seriesOf, inputsOf, paperMonths, recordsInto, all-records, recordsCounted}
+use Rattle.forms.specs.Forms.{seriesOf, inputsOf}
 
 -- ---- over a series as one thing
 pub series-of-one-result : (start : Second) (coefs : RefT (List ℤ)) (a b : Series) → (a .start ≡ start) × (a .coefs ≡ coefs) → (b .start ≡ start) × (b .coefs ≡ coefs) → a ≡ b
@@ -69,38 +68,9 @@ module _ (leap : List ℤ) (sun moon : Series) (first count : ℤ) where
   pub build-one-content : (file a b : List ℕ) → a ≡ writtenInto (bytesBuilt (inputsOf leap sun moon) utc8 first count (length file)) all-bytes file → b ≡ writtenInto (bytesBuilt (inputsOf leap sun moon) utc8 first count (length file)) all-bytes file → a ≡ b
   build-one-content = of-build.build-one-content (inputsOf leap sun moon) utc8 first count
 
--- ---- months in a lent list: the paper tells answers apart
-pub months-apart : OneToOne paperMonths
-months-apart (months-answer.Months m) (months-answer.Months n) e = ap months-answer.Months (answers-apart e)
-months-apart (months-answer.Months m) (months-answer.Refused s) e = answer-or-refusal e
-months-apart (months-answer.Refused r) (months-answer.Months n) e = answer-or-refusal (sym e)
-months-apart (months-answer.Refused r) (months-answer.Refused s) e = ap months-answer.Refused (refusals-apart r s e)
+module _ (leap : List ℤ) (sun moon : Series) (year : ℤ) (out : List Month) where
+  pub sui-into-one-result : (a b : MonthsAnswer) → paperMonths a ≡ recordsCounted (recordsInto (suiFor (inputsOf leap sun moon) utc8 year) (length out)) → paperMonths b ≡ recordsCounted (recordsInto (suiFor (inputsOf leap sun moon) utc8 year) (length out)) → a ≡ b
+  sui-into-one-result = of-records.sui-into-one-result (inputsOf leap sun moon) year out
 
--- whatever was found
-module _ (found : Verdict Sui) (out : List Month) where
-  stored-one-result : (a b : MonthsAnswer) → paperMonths a ≡ recordsCounted (recordsInto found (length out)) → paperMonths b ≡ recordsCounted (recordsInto found (length out)) → a ≡ b
-  stored-one-result a b p q = one-result paperMonths months-apart a b p q
-
-  stored-one-content : (a b : List Month) → a ≡ writtenInto (recordsInto found (length out)) all-records out → b ≡ writtenInto (recordsInto found (length out)) all-records out → a ≡ b
-  stored-one-content a b p q = one-content a b p q
-
-module _ (found : SuiAnswer) (out : List Month) where
-  pub store-one-result : (a b : MonthsAnswer) → paperMonths a ≡ recordsCounted (recordsInto (paperSui found) (length out)) → paperMonths b ≡ recordsCounted (recordsInto (paperSui found) (length out)) → a ≡ b
-  store-one-result = stored-one-result (paperSui found) out
-
-  pub store-one-content : (a b : List Month) → a ≡ writtenInto (recordsInto (paperSui found) (length out)) all-records out → b ≡ writtenInto (recordsInto (paperSui found) (length out)) all-records out → a ≡ b
-  store-one-content = stored-one-content (paperSui found) out
-
-module _ (year : ℤ) (moons zhongqi : List ℤ) (out : List Month) where
-  pub months-into-one-result : (a b : MonthsAnswer) → paperMonths a ≡ recordsCounted (recordsInto (monthsOf year moons zhongqi) (length out)) → paperMonths b ≡ recordsCounted (recordsInto (monthsOf year moons zhongqi) (length out)) → a ≡ b
-  months-into-one-result = stored-one-result (monthsOf year moons zhongqi) out
-
-  pub months-into-one-content : (a b : List Month) → a ≡ writtenInto (recordsInto (monthsOf year moons zhongqi) (length out)) all-records out → b ≡ writtenInto (recordsInto (monthsOf year moons zhongqi) (length out)) all-records out → a ≡ b
-  months-into-one-content = stored-one-content (monthsOf year moons zhongqi) out
-
-module _ (i : Inputs) (year : ℤ) (out : List Month) where
-  pub sui-into-one-result : (a b : MonthsAnswer) → paperMonths a ≡ recordsCounted (recordsInto (suiFor i utc8 year) (length out)) → paperMonths b ≡ recordsCounted (recordsInto (suiFor i utc8 year) (length out)) → a ≡ b
-  sui-into-one-result = stored-one-result (suiFor i utc8 year) out
-
-  pub sui-into-one-content : (a b : List Month) → a ≡ writtenInto (recordsInto (suiFor i utc8 year) (length out)) all-records out → b ≡ writtenInto (recordsInto (suiFor i utc8 year) (length out)) all-records out → a ≡ b
-  sui-into-one-content = stored-one-content (suiFor i utc8 year) out
+  pub sui-into-one-content : (a b : List Month) → a ≡ writtenInto (recordsInto (suiFor (inputsOf leap sun moon) utc8 year) (length out)) all-records out → b ≡ writtenInto (recordsInto (suiFor (inputsOf leap sun moon) utc8 year) (length out)) all-records out → a ≡ b
+  sui-into-one-content = of-records.sui-into-one-content (inputsOf leap sun moon) year out

@@ -22,9 +22,8 @@ ghost use Rattle.inputs.specs.Inputs.{inputsJudged};
 ghost use Rattle.sui.specs.Sui.{suiFor};
 ghost use Rattle.almanac.specs.Answers.{paperWritten, all-bytes};
 ghost use Rattle.build.specs.Build.{bytesBuilt, fileBuilt};
-ghost use Rattle.forms.specs.Forms.{seriesOf, inputsOf, paperMonths, recordsInto, all-records, recordsCounted};
-
-pub mod records;
+ghost use Rattle.records.specs.Records.{paperMonths, recordsInto, all-records, recordsCounted};
+ghost use Rattle.forms.specs.Forms.{seriesOf, inputsOf};
 
 // A series of either body: its start second and its coefficients, fourteen a segment.
 pub struct Series<'a> {
@@ -57,7 +56,7 @@ pub fn value_at<'a>(body: Body, given: Series<'a>, second: Second) -> ValueAnswe
 pub fn count_marks<'a>(body: Body, given: Series<'a>) -> CountAnswer
     ensures { λ r. ⌜ paperCount r ≡ countedMarks (seriesOf body (given .entry)) ⌝ }
 {
-    marks::count_marks(body, given.start, given.coefs)
+    finder::count_marks(body, given.start, given.coefs)
 }
 
 // The marks of a series in time order, from the start of `out` on: two words to a mark, its index and its second.
@@ -65,7 +64,7 @@ pub fn list_marks<'a>(body: Body, given: Series<'a>, out: &mut [i64]) -> ListAns
     ensures { λ r. ⌜ paperList r ≡ listedInto (seriesOf body (given .entry)) (length (now (out .entry))) ⌝ }
     ensures { λ r. ⌜ now (out .exit) ≡ writtenInto (listedInto (seriesOf body (given .entry)) (length (now (out .entry)))) (wordsListed (seriesOf body (given .entry))) (now (out .entry)) ⌝ }
 {
-    marks::list_marks(body, given.start, given.coefs, out)
+    finder::list_marks(body, given.start, given.coefs, out)
 }
 
 // What every build begins with: accepts a leap table, a Sun and a Moon, or refuses by 1, by 2 to 5 for the Sun, then for the Moon, or by 7.
@@ -79,7 +78,7 @@ pub fn judge<'l, 'a, 'b>(leap: &'l [i64], sun: Series<'a>, moon: Series<'b>) -> 
 pub fn sui<'l, 'a, 'b>(leap: &'l [i64], sun: Series<'a>, moon: Series<'b>, year: i64) -> SuiAnswer
     ensures { λ r. ⌜ r ≡ suiAnswer (suiFor (inputsOf (now (leap .entry)) (sun .entry) (moon .entry)) utc8 year) ⌝ }
 {
-    sui::sui(leap, sun.start, sun.coefs, moon.start, moon.coefs, year)
+    one_sui::sui(leap, sun.start, sun.coefs, moon.start, moon.coefs, year)
 }
 
 // The same in a lent list of records: both named forms at once.

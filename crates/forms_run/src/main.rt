@@ -9,7 +9,7 @@ ghost use Rattle.refusals.specs.Lent.{writtenInto};
 ghost use Rattle.series.specs.Series.{series};
 ghost use Rattle.marks.specs.Answers.{paperCount, countedMarks};
 ghost use Rattle.months.specs.Limits.{monthsOf};
-ghost use Rattle.forms.specs.Forms.{recordsInto, all-records};
+ghost use Rattle.records.specs.Records.{recordsInto, all-records};
 
 // The number of marks, by way of the struct.
 fn counted(body: Body, start: Second, coefs: &[i64]) -> CountAnswer
@@ -23,7 +23,7 @@ fn listed(year: i64, moons: &[i64], zhongqi: &[i64], rest: Month) -> [Month; 13]
     ensures { λ r. ⌜ r ≡ writtenInto (recordsInto (monthsOf year (now (moons .entry)) (now (zhongqi .entry))) 13) all-records (replicate 13 rest) ⌝ }
 {
     let mut list = [rest; 13];
-    forms::records::months_into(year, moons, zhongqi, &mut list);
+    records::months_into(year, moons, zhongqi, &mut list);
     list
 }
 

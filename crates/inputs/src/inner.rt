@@ -42,11 +42,11 @@ pub fn day_of_mark(
     requires { ⌜ Within 1000 zone ⌝ }
     ensures { λ r. ⌜ r ≡ dayOfMark (now (leap .entry)) (series body (start .0) (now (coefs .entry))) zone index ⌝ }
 {
-    let near = marks::inner::enclose(body, start, coefs, index);
-    let milli = clock::inner::milli_in(leap, Second(near.by), zone);
+    let near = locator::inner::enclose(body, start, coefs, index);
+    let milli = conversion::inner::milli_in(leap, Second(near.by), zone);
     if have_passed(milli, subtract(near.by, near.after)) {
-        return clock::day_of_milli(milli);
+        return conversion::day_of_milli(milli);
     }
-    let second = marks::inner::locate(body, start, coefs, index);
-    clock::inner::day_in(leap, second, zone)
+    let second = locator::inner::locate(body, start, coefs, index);
+    conversion::inner::day_in(leap, second, zone)
 }

@@ -19,12 +19,12 @@ fn any_early(leap: &[i64], body: Body, start: Second, coefs: &[i64]) -> bool
     requires { ⌜ Accepted (series body (start .0) (now coefs)) ⌝ }
     ensures { λ r. ⌜ r ≡ anyEarly (now (leap .entry)) (listedMarks (series body (start .0) (now (coefs .entry)))) ⌝ }
 {
-    if marks::inner::count(body, start, coefs) == 0 {
+    if finder::inner::count(body, start, coefs) == 0 {
         return false;
     }
-    let first = marks::inner::nth_mark(body, start, coefs, 0);
+    let first = locator::inner::nth_mark(body, start, coefs, 0);
     let second = first.second;
-    clock::inner::early(leap, second)
+    conversion::inner::early(leap, second)
 }
 
 // Judges everything that a build is handed: the leap table (1), the whole Sun series and the whole Moon series (2 to 5), and that no listed mark lies before the
@@ -32,7 +32,7 @@ fn any_early(leap: &[i64], body: Body, start: Second, coefs: &[i64]) -> bool
 pub fn judge(leap: &[i64], sunstart: Second, sun: &[i64], moonstart: Second, moon: &[i64]) -> Check
     ensures { λ r. ⌜ paperCheck r ≡ inputsJudged (inputs (now (leap .entry)) (sunstart .0) (now (sun .entry)) (moonstart .0) (now (moon .entry))) ⌝ }
 {
-    let leap_check = clock::judge_leap_table(leap);
+    let leap_check = conversion::judge_leap_table(leap);
     if let Check::Refused(r) = leap_check {
         return Check::Refused(r);
     }

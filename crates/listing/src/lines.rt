@@ -69,9 +69,9 @@ pub fn line_of(
     requires { ⌜ k < length (listedMarks (series body (start .0) (now coefs))) ⌝ }
     ensures { λ r. ⌜ lineText r ≡ lineOf body (now (leap .entry)) (getD (listedMarks (series body (start .0) (now (coefs .entry)))) k noMark) ⌝ }
 {
-    let mark = marks::inner::nth_after(body, start, coefs, lowest, k);
+    let mark = locator::inner::nth_after(body, start, coefs, lowest, k);
     let second = mark.second;
-    let shown = clock::inner::shown_in(leap, second, 480);
+    let shown = conversion::inner::shown_in(leap, second, 480);
     let turn = whole::inner::floor_mod(mark.index, circle_of(body));
     Line {
         letter: letter_of(body),

@@ -60,10 +60,10 @@ pub fn put_lines(
     ensures { λ r. ⌜ r ≡ partAnswer (linesOf (inputs (now (leap .entry)) (sunstart .0) (now (sun .entry)) (moonstart .0) (now (moon .entry)))) from (length (now (room .entry))) ⌝ }
     ensures { λ r. ⌜ now (room .exit) ≡ partHeld (linesOf (inputs (now (leap .entry)) (sunstart .0) (now (sun .entry)) (moonstart .0) (now (moon .entry)))) from (now (room .entry)) ⌝ }
 {
-    let suns = marks::inner::count(Body::Sun, sunstart, sun);
-    let moons = marks::inner::count(Body::Moon, moonstart, moon);
-    let sunlowest = marks::inner::first_reached(Body::Sun, sunstart, sun);
-    let moonlowest = marks::inner::first_reached(Body::Moon, moonstart, moon);
+    let suns = finder::inner::count(Body::Sun, sunstart, sun);
+    let moons = finder::inner::count(Body::Moon, moonstart, moon);
+    let sunlowest = finder::inner::first_reached(Body::Sun, sunstart, sun);
+    let moonlowest = finder::inner::first_reached(Body::Moon, moonstart, moon);
     let total = suns + moons;
     let mut i = from;
     let mut at = 0;

@@ -13,7 +13,7 @@ use Rattle.marks.specs.declared.CountAnswer.{CountAnswer}
 use Rattle.marks.specs.declared.CountAnswer.the-variants as count-answer
 use Rattle.marks.specs.declared.ListAnswer.{ListAnswer}
 use Rattle.marks.specs.declared.ListAnswer.the-variants as list-answer
-use Rattle.marks.specs.declared.inner.ListedMark.{ListedMark}
+use Rattle.marks.specs.declared.ListedMark.{ListedMark}
 use Rattle.marks.specs.Marks.{Mark}
 use Rattle.marks.specs.Listed.{listedMarks}
 use Rattle.marks.specs.Words.{markWords}

@@ -38,7 +38,7 @@ fn checksum(words: &[i64], n: usize) -> u64 {
 fn report(letter: &[u8], body: Body, start: i64, coefs: &[i64]) {
     let mut out = zeros();
     io::write_all(1, letter);
-    match marks::list_marks(body, Second(start), coefs, &mut out) {
+    match finder::list_marks(body, Second(start), coefs, &mut out) {
         ListAnswer::Marks(n) => {
             let marks = n as u64;
             io::print_decimal(1, marks);

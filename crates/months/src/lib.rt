@@ -1,13 +1,6 @@
-// The months of a sui, by the rule over days alone (document 01, "Months of a sui"). Nothing here knows of series, instants or dates.
+// Months and suis as records, and on paper (`specs/`) the month rule over days alone: definitions, examples and theorems (document 01, "Months of a sui").
+// Nothing here knows of series, instants or dates, and nothing runs: the functions are those of `month_rule`.
 use refusals::Check;
-ghost use mathlib.Core.Path.{_≡_};
-ghost use Rattle.months.specs.Limits.{monthsOf};
-ghost use Rattle.months.specs.Answers.{suiAnswer};
-
-mod finding;
-pub mod inner;
-mod limits;
-mod numbering;
 
 // A month: its handle, its first day, and how many days it has.
 pub struct Month {
@@ -39,19 +32,4 @@ pub struct DaysAnswer {
 pub struct SuiAnswer {
     pub check: Check,
     pub sui: Sui,
-}
-
-// The months of the sui that these new-moon days and zhongqi days hold. The year serves the handles only.
-pub fn months_of(year: i64, moons: &[i64], zhongqi: &[i64]) -> SuiAnswer
-    ensures { λ r. ⌜ r ≡ suiAnswer (monthsOf year (now (moons .entry)) (now (zhongqi .entry))) ⌝ }
-{
-    if !limits::lists_kept(year, moons, zhongqi) {
-        return inner::no_sui(refusals::NO_SUI);
-    }
-    let found = inner::days_of(moons, zhongqi);
-    let check = found.check;
-    if let Check::Refused(r) = check {
-        return inner::no_sui(r);
-    }
-    inner::sui_of(year, found.days)
 }

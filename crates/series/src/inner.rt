@@ -81,5 +81,5 @@ pub fn value(body: Body, start: Second, coefs: &[i64], second: Second) -> i64
     let at = second.0;
     let seconds = whole::inner::distance(from, at);
     let part = segment_of(coefs, segment_after(body, seconds));
-    chebyshev::inner::value(place_after(body, seconds), part)
+    evaluator::inner::value(place_after(body, seconds), part)
 }

@@ -75,9 +75,9 @@ fn ends_of(body: Body, part: &[i64]) -> Ends
     ensures { λ r. ⌜ r .first ≡ value (now (part .entry)) (negℤ (pos S)) ⌝ }
     ensures { λ r. ⌜ r .last ≡ value (now (part .entry)) (pos S -ℤ pos (numbers body .step)) ⌝ }
 {
-    let even = chebyshev::inner::even_sum(part);
-    let odd = chebyshev::inner::odd_sum(part);
-    let down = whole::inner::subtract(0, chebyshev::inner::square_sum(part));
+    let even = evaluator::inner::even_sum(part);
+    let odd = evaluator::inner::odd_sum(part);
+    let down = whole::inner::subtract(0, evaluator::inner::square_sum(part));
     let first = whole::inner::subtract(even, odd);
     let sum = whole::inner::add(even, odd);
     let last = whole::inner::add(sum, floor_by_half(body, down));
@@ -94,7 +94,7 @@ fn too_slow(body: Body, part: &[i64]) -> bool
     ensures { λ r. ⌜ r ≡ ltZ (slope (now (part .entry))) (pos (100 * numbers body .halfLength)) ⌝ }
 {
     let least = whole::inner::signed(100 * crate::inner::half_length(body));
-    chebyshev::inner::slope(part) < least
+    evaluator::inner::slope(part) < least
 }
 
 // Whether segment k, which begins with the value `first`, does not join the one before it, which ends with `last`. Segment 0 joins none.
@@ -150,7 +150,7 @@ pub fn each_segment(body: Body, coefs: &[i64]) -> Check
     let mut k = 0;
     while k < count {
         let part = crate::inner::segment_of(coefs, k);
-        if chebyshev::inner::out_of_range(part) {
+        if evaluator::inner::out_of_range(part) {
             return Check::Refused(Refusal {
                 number: 3,
                 segment: k,

@@ -88,7 +88,7 @@ fn print_suis(words: &[i64]) {
     let mut k: usize = 0;
     while k < 6 {
         let year = words[k];
-        let found = sui::sui(
+        let found = one_sui::sui(
             &words[6..62],
             Second(words[62]),
             &words[63..581],

@@ -1,10 +1,10 @@
 // The parts of finding a sui's days in the days ahead of it: one solstice in each of two years, the zhongqi between them, the new moons from month 11 on.
+use month_rule::inner::days_of;
+use month_rule::inner::no_days;
 use months::DaysAnswer;
-use months::inner::days_of;
-use months::inner::no_days;
+use one_sui::inner::eve;
+use one_sui::inner::zhongqi_day;
 use series::Body;
-use sui::inner::eve;
-use sui::inner::zhongqi_day;
 use times::Day;
 use times::Second;
 use turns::inner::TurnList;

@@ -1,10 +1,10 @@
 // For builds of many suis: where the first one begins, the days ahead of it, and the sui of each year. The zone is in minutes.
 use super::finding::days_after;
 use months::SuiAnswer;
+use one_sui::inner::eve;
 use refusals::Check;
 use refusals::Refusal;
 use series::Body;
-use sui::inner::eve;
 use times::Second;
 use turns::inner::TurnList;
 use turns::inner::day_of_turn;
@@ -144,7 +144,7 @@ pub fn sui_after(
     );
     let check = found.check;
     if let Check::Refused(r) = check {
-        return months::inner::no_sui(r);
+        return month_rule::inner::no_sui(r);
     }
-    months::inner::sui_of(year, found.days)
+    month_rule::inner::sui_of(year, found.days)
 }

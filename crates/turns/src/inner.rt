@@ -75,9 +75,9 @@ pub fn turns_of(body: Body, start: Second, coefs: &[i64]) -> TurnList
     requires { ⌜ Accepted (series body (start .0) (now coefs)) ⌝ }
     ensures { λ r. ⌜ r ≡ turnsIn (series body (start .0) (now (coefs .entry))) ⌝ }
 {
-    let lowest = marks::inner::first_reached(body, start, coefs);
+    let lowest = finder::inner::first_reached(body, start, coefs);
     let first = first_turn(body, lowest);
-    let highest = marks::inner::last_reached(body, start, coefs);
+    let highest = finder::inner::last_reached(body, start, coefs);
     let count = turns_up_to(body, first, highest);
     TurnList { first, count }
 }

@@ -59,7 +59,8 @@ use Rattle.build.proofs.build.Symbol as callee-def
 use Rattle.build.proofs.build.Symbol.{name as #callee}
 use Rattle.build.proofs.build.Met as callee-thm
 use Rattle.forms.specs.declared.Series.{Series}
-use Rattle.forms.proofs.Taken.{sliced, num, second-val, SeriesOwn, SliceOwn, IsSecond, start-is, says-both, coefs-out, has-second, has-i64}
+use Rattle.records.proofs.Walking.{sliced, num, second-val, SliceOwn, IsSecond, says-both, has-second, has-i64}
+use Rattle.forms.proofs.Taken.{SeriesOwn, start-is, coefs-out}
 use Rattle.forms.proofs.Series as T
 use Rattle.forms.proofs.Series.Laws as T′
 use Rattle.forms.proofs.build.Key.{name as #forms·build}

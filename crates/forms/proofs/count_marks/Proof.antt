@@ -1,4 +1,4 @@
--- `forms::count_marks` meets its contract: a walk of its MIR, by hand. The struct is taken apart, and `marks::count_marks` is called on body, start and coefficients. All that the proof knows of it is that
+-- `forms::count_marks` meets its contract: a walk of its MIR, by hand. The struct is taken apart, and `finder::count_marks` is called on body, start and coefficients. All that the proof knows of it is that
 -- it meets its contract. The struct is Copy: one copy of what it owns is kept for the exit. Assumes nothing.
 use mathlib.Core.Path.{_≡_, refl}
 use mathlib.Core.List.{List, [], _∷_}
@@ -47,12 +47,13 @@ use Rattle.marks.specs.Answers.{paperCount, countedMarks}
 use Rattle.marks.specs.declared.CountAnswer.{CountAnswer}
 use Rattle.marks.proofs.CountAnswer as S
 use Rattle.marks.proofs.CountAnswer.Laws as S′
-use Rattle.marks.proofs.count_marks as callee
-use Rattle.marks.proofs.count_marks.Symbol as callee-def
-use Rattle.marks.proofs.count_marks.Symbol.{name as #marks·count-marks}
-use Rattle.marks.proofs.count_marks.Met as callee-thm
+use Rattle.finder.proofs.count_marks as callee
+use Rattle.finder.proofs.count_marks.Symbol as callee-def
+use Rattle.finder.proofs.count_marks.Symbol.{name as #marks·count-marks}
+use Rattle.finder.proofs.count_marks.Met as callee-thm
 use Rattle.forms.specs.declared.Series.{Series}
-use Rattle.forms.proofs.Taken.{sliced, body-val, second-val, SeriesOwn, SliceOwn, IsBody, IsSecond, start-is, coefs-out, has-body, has-second}
+use Rattle.records.proofs.Walking.{sliced, second-val, SliceOwn, IsSecond, has-second}
+use Rattle.forms.proofs.Taken.{body-val, SeriesOwn, IsBody, start-is, coefs-out, has-body}
 use Rattle.forms.proofs.Series as T
 use Rattle.forms.proofs.Series.Laws as T′
 use Rattle.forms.proofs.count_marks.Key.{name as #forms·count-marks}
@@ -162,4 +163,4 @@ count-marks-spec 𝓤 H 𝓜 𝓖 𝓡 =
     entered 𝓤 H (tripleOf 𝓤 H (𝓖 .A) self.signature (self.spec 𝓤 H (𝓖 .A) (𝓜 .mem) (𝓡 .run)))
     (tables 𝓤 H 𝓜 𝓡 code.env .C) (tables 𝓤 H 𝓜 𝓡 code.env .Λ) #forms·count-marks code.function (code.unfolded 𝓤 H 𝓜 𝓡)
     (self-meets 𝓤 H (𝓖 .A) (givenOf 𝓤 H 𝓜 𝓖) (𝓜 .mem) (𝓡 .run) (tablesOf 𝓤 H 𝓜 (tables 𝓤 H 𝓜 𝓡 code.env))
-    (cited 𝓤 H (Callee 𝓤 H (𝓖 .A) (𝓜 .mem) (𝓡 .run)) 𝓜 𝓡 code.env #marks·count-marks callee-def.routine code.calls-marks·count-marks (callee-thm.met 𝓤 H 𝓜 𝓖 𝓡)))
+    (cited 𝓤 H (Callee 𝓤 H (𝓖 .A) (𝓜 .mem) (𝓡 .run)) 𝓜 𝓡 code.env #marks·count-marks callee-def.routine code.calls-finder·count-marks (callee-thm.met 𝓤 H 𝓜 𝓖 𝓡)))

@@ -50,7 +50,8 @@ use Rattle.inputs.proofs.judge.Symbol as callee-def
 use Rattle.inputs.proofs.judge.Symbol.{name as #inputs·judge}
 use Rattle.inputs.proofs.judge.Met as callee-thm
 use Rattle.forms.specs.declared.Series.{Series}
-use Rattle.forms.proofs.Taken.{sliced, second-val, SeriesOwn, SliceOwn, IsSecond, start-is, coefs-out, has-second}
+use Rattle.records.proofs.Walking.{sliced, second-val, SliceOwn, IsSecond, has-second}
+use Rattle.forms.proofs.Taken.{SeriesOwn, start-is, coefs-out}
 use Rattle.forms.proofs.Series as T
 use Rattle.forms.proofs.Series.Laws as T′
 use Rattle.forms.proofs.judge.Key.{name as #forms·judge}

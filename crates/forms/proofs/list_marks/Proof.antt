@@ -1,4 +1,4 @@
--- `forms::list_marks` meets its contract: a walk of its MIR, by hand. The struct is taken apart, and `marks::list_marks` is called on body, start and coefficients, and on the slice that it writes. All
+-- `forms::list_marks` meets its contract: a walk of its MIR, by hand. The struct is taken apart, and `finder::list_marks` is called on body, start and coefficients, and on the slice that it writes. All
 -- that the proof knows of it is that it meets its contract. The struct is Copy: one copy of what it owns is kept for the exit. The `&mut` isn't needed after the call, so it goes to the callee at its
 -- own lifetime, share and name (`gave-slice`). Assumes nothing.
 use mathlib.Core.Path.{_≡_, refl}
@@ -53,12 +53,13 @@ use Rattle.marks.specs.Answers.{paperList, listedInto, wordsListed}
 use Rattle.marks.specs.declared.ListAnswer.{ListAnswer}
 use Rattle.marks.proofs.ListAnswer as S
 use Rattle.marks.proofs.ListAnswer.Laws as S′
-use Rattle.marks.proofs.list_marks as callee
-use Rattle.marks.proofs.list_marks.Symbol as callee-def
-use Rattle.marks.proofs.list_marks.Symbol.{name as #marks·list-marks}
-use Rattle.marks.proofs.list_marks.Met as callee-thm
+use Rattle.finder.proofs.list_marks as callee
+use Rattle.finder.proofs.list_marks.Symbol as callee-def
+use Rattle.finder.proofs.list_marks.Symbol.{name as #marks·list-marks}
+use Rattle.finder.proofs.list_marks.Met as callee-thm
 use Rattle.forms.specs.declared.Series.{Series}
-use Rattle.forms.proofs.Taken.{sliced, body-val, second-val, SeriesOwn, SliceOwn, IsBody, IsSecond, start-is, says-both, coefs-out, has-body, has-second}
+use Rattle.records.proofs.Walking.{sliced, second-val, SliceOwn, IsSecond, says-both, has-second}
+use Rattle.forms.proofs.Taken.{body-val, SeriesOwn, IsBody, start-is, coefs-out, has-body}
 use Rattle.forms.proofs.Series as T
 use Rattle.forms.proofs.Series.Laws as T′
 use Rattle.forms.proofs.list_marks.Key.{name as #forms·list-marks}
@@ -199,4 +200,4 @@ list-marks-spec 𝓤 H 𝓜 𝓖 𝓡 =
     entered 𝓤 H (tripleOf 𝓤 H (𝓖 .A) self.signature (self.spec 𝓤 H (𝓖 .A) (𝓜 .mem) (𝓡 .run)))
     (tables 𝓤 H 𝓜 𝓡 code.env .C) (tables 𝓤 H 𝓜 𝓡 code.env .Λ) #forms·list-marks code.function (code.unfolded 𝓤 H 𝓜 𝓡)
     (self-meets 𝓤 H (𝓖 .A) (givenOf 𝓤 H 𝓜 𝓖) (𝓜 .mem) (𝓡 .run) (tablesOf 𝓤 H 𝓜 (tables 𝓤 H 𝓜 𝓡 code.env))
-    (cited 𝓤 H (Callee 𝓤 H (𝓖 .A) (𝓜 .mem) (𝓡 .run)) 𝓜 𝓡 code.env #marks·list-marks callee-def.routine code.calls-marks·list-marks (callee-thm.met 𝓤 H 𝓜 𝓖 𝓡)))
+    (cited 𝓤 H (Callee 𝓤 H (𝓖 .A) (𝓜 .mem) (𝓡 .run)) 𝓜 𝓡 code.env #marks·list-marks callee-def.routine code.calls-finder·list-marks (callee-thm.met 𝓤 H 𝓜 𝓖 𝓡)))

@@ -36,7 +36,7 @@ use Rattle.times.specs.declared.Second.{Second}
 use Rattle.times.proofs.Second as N
 use Rattle.times.proofs.Second.Laws as N′
 use Rattle.forms.specs.declared.Series.{Series}
-use Rattle.forms.proofs.Taken.{sliced, second-val, SliceOwn, IsSecond, has-second}
+use Rattle.records.proofs.Walking.{sliced, second-val, SliceOwn, IsSecond, has-second}
 use Rattle.forms.proofs.Series as T
 use Rattle.forms.proofs.Series.Laws as T′
 use Rattle.forms.proofs.series_of.Key.{name as #forms·series-of}

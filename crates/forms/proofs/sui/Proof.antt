@@ -1,4 +1,4 @@
--- `forms::sui` meets its contract: a walk of its MIR, by hand. Both structs are taken apart, and `sui::sui` is called on the leap table, each start with its coefficients, and the year. All that the
+-- `forms::sui` meets its contract: a walk of its MIR, by hand. Both structs are taken apart, and `one_sui::sui` is called on the leap table, each start with its coefficients, and the year. All that the
 -- proof knows of it is that it meets its contract. The structs and the leap table are Copy: one copy of what each owns is kept for the exit. Assumes nothing.
 use mathlib.Core.Path.{_≡_, refl}
 use Prim.Native.Nat.{_<_, _^_}
@@ -50,12 +50,13 @@ use Rattle.months.specs.declared.SuiAnswer.{SuiAnswer}
 use Rattle.months.proofs.SuiAnswer as S
 use Rattle.months.proofs.SuiAnswer.Laws as S′
 use Rattle.sui.specs.Sui.{suiFor}
-use Rattle.sui.proofs.sui as callee
-use Rattle.sui.proofs.sui.Symbol as callee-def
-use Rattle.sui.proofs.sui.Symbol.{name as #sui·sui}
-use Rattle.sui.proofs.sui.Met as callee-thm
+use Rattle.one_sui.proofs.sui as callee
+use Rattle.one_sui.proofs.sui.Symbol as callee-def
+use Rattle.one_sui.proofs.sui.Symbol.{name as #sui·sui}
+use Rattle.one_sui.proofs.sui.Met as callee-thm
 use Rattle.forms.specs.declared.Series.{Series}
-use Rattle.forms.proofs.Taken.{sliced, num, second-val, SeriesOwn, SliceOwn, IsSecond, start-is, coefs-out, has-second, has-i64}
+use Rattle.records.proofs.Walking.{sliced, num, second-val, SliceOwn, IsSecond, has-second, has-i64}
+use Rattle.forms.proofs.Taken.{SeriesOwn, start-is, coefs-out}
 use Rattle.forms.proofs.Series as T
 use Rattle.forms.proofs.Series.Laws as T′
 use Rattle.forms.proofs.sui.Key.{name as #forms·sui}
@@ -211,4 +212,4 @@ sui-spec 𝓤 H 𝓜 𝓖 𝓡 =
     entered 𝓤 H (tripleOf 𝓤 H (𝓖 .A) self.signature (self.spec 𝓤 H (𝓖 .A) (𝓜 .mem) (𝓡 .run)))
     (tables 𝓤 H 𝓜 𝓡 code.env .C) (tables 𝓤 H 𝓜 𝓡 code.env .Λ) #forms·sui code.function (code.unfolded 𝓤 H 𝓜 𝓡)
     (self-meets 𝓤 H (𝓖 .A) (givenOf 𝓤 H 𝓜 𝓖) (𝓜 .mem) (𝓡 .run) (tablesOf 𝓤 H 𝓜 (tables 𝓤 H 𝓜 𝓡 code.env))
-    (cited 𝓤 H (Callee 𝓤 H (𝓖 .A) (𝓜 .mem) (𝓡 .run)) 𝓜 𝓡 code.env #sui·sui callee-def.routine code.calls-sui·sui (callee-thm.met 𝓤 H 𝓜 𝓖 𝓡)))
+    (cited 𝓤 H (Callee 𝓤 H (𝓖 .A) (𝓜 .mem) (𝓡 .run)) 𝓜 𝓡 code.env #sui·sui callee-def.routine code.calls-one-sui·sui (callee-thm.met 𝓤 H 𝓜 𝓖 𝓡)))

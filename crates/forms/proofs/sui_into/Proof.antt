@@ -54,18 +54,19 @@ use Rattle.months.specs.declared.Month.{Month}
 use Rattle.months.specs.declared.Sui.{Sui}
 use Rattle.months.proofs.Month as O
 use Rattle.sui.specs.Sui.{suiFor}
-use Rattle.forms.specs.Forms.{paperMonths, recordsInto, all-records, recordsCounted}
+use Rattle.records.specs.Records.{paperMonths, recordsInto, all-records, recordsCounted}
 use Rattle.forms.specs.declared.Series.{Series}
-use Rattle.forms.specs.declared.records.MonthsAnswer.{MonthsAnswer}
-use Rattle.forms.proofs.Taken.{sliced, num, second-val, SeriesOwn, SliceOwn, IsSecond, start-is, says-both, coefs-out, has-second, has-i64}
+use Rattle.records.specs.declared.MonthsAnswer.{MonthsAnswer}
+use Rattle.records.proofs.Walking.{sliced, num, second-val, SliceOwn, IsSecond, says-both, has-second, has-i64}
+use Rattle.forms.proofs.Taken.{SeriesOwn, start-is, coefs-out}
 use Rattle.forms.proofs.Series as T
 use Rattle.forms.proofs.Series.Laws as T′
-use Rattle.forms.proofs.records.MonthsAnswer as S
-use Rattle.forms.proofs.records.MonthsAnswer.Laws as S′
-use Rattle.forms.proofs.records.sui_into as callee
-use Rattle.forms.proofs.records.sui_into.Symbol as callee-def
-use Rattle.forms.proofs.records.sui_into.Symbol.{name as #callee}
-use Rattle.forms.proofs.records.sui_into.Met as callee-thm
+use Rattle.records.proofs.MonthsAnswer as S
+use Rattle.records.proofs.MonthsAnswer.Laws as S′
+use Rattle.records.proofs.sui_into as callee
+use Rattle.records.proofs.sui_into.Symbol as callee-def
+use Rattle.records.proofs.sui_into.Symbol.{name as #callee}
+use Rattle.records.proofs.sui_into.Met as callee-thm
 use Rattle.forms.proofs.sui_into.Key.{name as #forms·sui-into}
 use Rattle.forms.proofs.sui_into as self
 use Rattle.forms.proofs.sui_into.Statement as stated
@@ -238,4 +239,4 @@ sui-into-spec 𝓤 H 𝓜 𝓖 𝓡 =
     entered 𝓤 H (tripleOf 𝓤 H (𝓖 .A) self.signature (self.spec 𝓤 H (𝓖 .A) (𝓜 .mem) (𝓡 .run)))
     (tables 𝓤 H 𝓜 𝓡 code.env .C) (tables 𝓤 H 𝓜 𝓡 code.env .Λ) #forms·sui-into code.function (code.unfolded 𝓤 H 𝓜 𝓡)
     (self-meets 𝓤 H (𝓖 .A) (givenOf 𝓤 H 𝓜 𝓖) (𝓜 .mem) (𝓡 .run) (tablesOf 𝓤 H 𝓜 (tables 𝓤 H 𝓜 𝓡 code.env))
-    (cited 𝓤 H (Callee 𝓤 H (𝓖 .A) (𝓜 .mem) (𝓡 .run)) 𝓜 𝓡 code.env #callee callee-def.routine code.calls-forms·records·sui-into (callee-thm.met 𝓤 H 𝓜 𝓖 𝓡)))
+    (cited 𝓤 H (Callee 𝓤 H (𝓖 .A) (𝓜 .mem) (𝓡 .run)) 𝓜 𝓡 code.env #callee callee-def.routine code.calls-records·sui-into (callee-thm.met 𝓤 H 𝓜 𝓖 𝓡)))

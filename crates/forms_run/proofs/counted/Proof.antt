@@ -47,7 +47,8 @@ use Rattle.marks.specs.declared.CountAnswer.{CountAnswer}
 use Rattle.marks.proofs.CountAnswer as S
 use Rattle.marks.proofs.CountAnswer.Laws as S′
 use Rattle.forms.specs.declared.Series.{Series}
-use Rattle.forms.proofs.Taken.{sliced, body-val, second-val, IsBody, IsSecond, has-body, has-second}
+use Rattle.records.proofs.Walking.{sliced, second-val, IsSecond, has-second}
+use Rattle.forms.proofs.Taken.{body-val, IsBody, has-body}
 use Rattle.forms.proofs.Series as T
 use Rattle.forms.proofs.Series.Laws as T′
 use Rattle.forms.proofs.series_of as made

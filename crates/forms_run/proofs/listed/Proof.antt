@@ -56,15 +56,15 @@ use Rattle.months.specs.declared.Month.{Month}
 use Rattle.months.specs.Limits.{monthsOf}
 use Rattle.months.proofs.Month as T
 use Rattle.months.proofs.Month.Laws as T′
-use Rattle.forms.specs.Forms.{paperMonths, recordsInto, all-records, recordsCounted}
-use Rattle.forms.specs.declared.records.MonthsAnswer.{MonthsAnswer}
-use Rattle.forms.proofs.Taken.{sliced, num, has-i64}
-use Rattle.forms.proofs.records.MonthsAnswer as S
-use Rattle.forms.proofs.records.MonthsAnswer.Laws as S′
-use Rattle.forms.proofs.records.months_into as callee
-use Rattle.forms.proofs.records.months_into.Symbol as callee-def
-use Rattle.forms.proofs.records.months_into.Symbol.{name as #months-into}
-use Rattle.forms.proofs.records.months_into.Met as callee-thm
+use Rattle.records.specs.Records.{paperMonths, recordsInto, all-records, recordsCounted}
+use Rattle.records.specs.declared.MonthsAnswer.{MonthsAnswer}
+use Rattle.records.proofs.Walking.{sliced, num, has-i64}
+use Rattle.records.proofs.MonthsAnswer as S
+use Rattle.records.proofs.MonthsAnswer.Laws as S′
+use Rattle.records.proofs.months_into as callee
+use Rattle.records.proofs.months_into.Symbol as callee-def
+use Rattle.records.proofs.months_into.Symbol.{name as #months-into}
+use Rattle.records.proofs.months_into.Met as callee-thm
 use Rattle.forms_run.proofs.listed.Key.{name as #listed}
 use Rattle.forms_run.proofs.listed as self
 use Rattle.forms_run.proofs.listed.Statement as stated
@@ -246,4 +246,4 @@ listed-spec 𝓤 H 𝓜 𝓖 𝓡 =
     entered 𝓤 H (tripleOf 𝓤 H (𝓖 .A) self.signature (self.spec 𝓤 H (𝓖 .A) (𝓜 .mem) (𝓡 .run)))
     (tables 𝓤 H 𝓜 𝓡 code.env .C) (tables 𝓤 H 𝓜 𝓡 code.env .Λ) #listed code.function (code.unfolded 𝓤 H 𝓜 𝓡)
     (self-meets 𝓤 H (𝓖 .A) (givenOf 𝓤 H 𝓜 𝓖) (𝓜 .mem) (𝓡 .run) (tablesOf 𝓤 H 𝓜 (tables 𝓤 H 𝓜 𝓡 code.env))
-    (cited 𝓤 H (Into 𝓤 H (𝓖 .A) (𝓜 .mem) (𝓡 .run)) 𝓜 𝓡 code.env #months-into callee-def.routine code.calls-forms·records·months-into (callee-thm.met 𝓤 H 𝓜 𝓖 𝓡)))
+    (cited 𝓤 H (Into 𝓤 H (𝓖 .A) (𝓜 .mem) (𝓡 .run)) 𝓜 𝓡 code.env #months-into callee-def.routine code.calls-records·months-into (callee-thm.met 𝓤 H 𝓜 𝓖 𝓡)))

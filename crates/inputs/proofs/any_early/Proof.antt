@@ -17,9 +17,9 @@ use Rattle.inputs.proofs.any_early.Statement.{statement}
 use Rattle.inputs.proofs.any_early.Tie as tie
 use Rattle.inputs.proofs.any_early.Reads as reads
 use Rattle.inputs.proofs.any_early.Lts as lts
-use Rattle.clock.proofs.inner.early.Reads as early-reads
-use Rattle.marks.proofs.inner.count.Reads as count-reads
-use Rattle.marks.proofs.inner.nth_mark.Reads as nth-mark-reads
+use Rattle.conversion.proofs.inner.early.Reads as early-reads
+use Rattle.finder.proofs.inner.count.Reads as count-reads
+use Rattle.locator.proofs.inner.nth_mark.Reads as nth-mark-reads
 
 abbrev called : lts.Claims
 called = (count-reads.Asked, count-reads.Learnt, nth-mark-reads.Asked, nth-mark-reads.Learnt, early-reads.Asked, early-reads.Learnt)

@@ -22,8 +22,8 @@ use Rattle.listing.proofs.parts.put_lines.Tie as tie
 use Rattle.listing.proofs.parts.put_lines.Reads as reads
 use Rattle.listing.proofs.parts.put_lines.Lts as lts
 use Rattle.listing.proofs.parts.line_at.Reads as line-at-reads
-use Rattle.marks.proofs.inner.count.Reads as count-reads
-use Rattle.marks.proofs.inner.first_reached.Reads as first-reached-reads
+use Rattle.finder.proofs.inner.count.Reads as count-reads
+use Rattle.finder.proofs.inner.first_reached.Reads as first-reached-reads
 use Rattle.text.proofs.inner.line_length.Reads as line-length-reads
 use Rattle.text.proofs.inner.put_line.Reads as put-line-reads
 

@@ -16,7 +16,7 @@ use Rattle.series.proofs.inner.value.Statement.{statement}
 use Rattle.series.proofs.inner.value.Tie as tie
 use Rattle.series.proofs.inner.value.Reads as reads
 use Rattle.series.proofs.inner.value.Lts as lts
-use Rattle.chebyshev.proofs.inner.value.Reads as value-reads
+use Rattle.evaluator.proofs.inner.value.Reads as value-reads
 use Rattle.series.proofs.inner.place_after.Reads as place-after-reads
 use Rattle.series.proofs.inner.segment_after.Reads as segment-after-reads
 use Rattle.series.proofs.inner.segment_of.Reads as segment-of-reads

@@ -25,7 +25,7 @@ use Rattle.series.proofs.judging.each_segment.Statement.{statement}
 use Rattle.series.proofs.judging.each_segment.Tie as tie
 use Rattle.series.proofs.judging.each_segment.Reads as reads
 use Rattle.series.proofs.judging.each_segment.Lts as lts
-use Rattle.chebyshev.proofs.inner.out_of_range.Reads as out-of-range-reads
+use Rattle.evaluator.proofs.inner.out_of_range.Reads as out-of-range-reads
 use Rattle.series.proofs.inner.segment_of.Reads as segment-of-reads
 use Rattle.series.proofs.judging.first_of.Reads as first-of-reads
 use Rattle.series.proofs.judging.joins_badly.Reads as joins-badly-reads

@@ -19,9 +19,9 @@ use Rattle.series.proofs.judging.ends_of.Statement.{statement}
 use Rattle.series.proofs.judging.ends_of.Tie as tie
 use Rattle.series.proofs.judging.ends_of.Reads as reads
 use Rattle.series.proofs.judging.ends_of.Lts as lts
-use Rattle.chebyshev.proofs.inner.even_sum.Reads as even-sum-reads
-use Rattle.chebyshev.proofs.inner.odd_sum.Reads as odd-sum-reads
-use Rattle.chebyshev.proofs.inner.square_sum.Reads as square-sum-reads
+use Rattle.evaluator.proofs.inner.even_sum.Reads as even-sum-reads
+use Rattle.evaluator.proofs.inner.odd_sum.Reads as odd-sum-reads
+use Rattle.evaluator.proofs.inner.square_sum.Reads as square-sum-reads
 use Rattle.series.proofs.judging.floor_by_half.Reads as floor-by-half-reads
 use Rattle.whole.proofs.inner.add.Reads as add-reads
 use Rattle.whole.proofs.inner.subtract.Reads as subtract-reads

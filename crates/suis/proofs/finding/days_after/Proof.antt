@@ -32,7 +32,7 @@ use Rattle.suis.proofs.finding.days_after.Statement.{statement}
 use Rattle.suis.proofs.finding.days_after.Tie as tie
 use Rattle.suis.proofs.finding.days_after.Reads as reads
 use Rattle.suis.proofs.finding.days_after.Lts as lts
-use Rattle.months.proofs.inner.no_days.Reads as no-days-reads
+use Rattle.month_rule.proofs.inner.no_days.Reads as no-days-reads
 use Rattle.suis.proofs.finding.days_within.Reads as days-within-reads
 use Rattle.suis.proofs.finding.one_in_each.Reads as one-in-each-reads
 use Rattle.suis.proofs.finding.zhongqi_days.Reads as zhongqi-days-reads

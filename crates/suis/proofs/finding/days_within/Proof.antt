@@ -21,7 +21,7 @@ use Rattle.suis.proofs.finding.days_within.Statement.{statement}
 use Rattle.suis.proofs.finding.days_within.Tie as tie
 use Rattle.suis.proofs.finding.days_within.Reads as reads
 use Rattle.suis.proofs.finding.days_within.Lts as lts
-use Rattle.months.proofs.inner.days_of.Reads as days-of-reads
+use Rattle.month_rule.proofs.inner.days_of.Reads as days-of-reads
 use Rattle.suis.proofs.finding.too_many.Reads as too-many-reads
 
 abbrev called : lts.Claims

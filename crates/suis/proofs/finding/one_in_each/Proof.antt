@@ -15,7 +15,7 @@ use Rattle.suis.proofs.finding.one_in_each.Statement.{statement}
 use Rattle.suis.proofs.finding.one_in_each.Tie as tie
 use Rattle.suis.proofs.finding.one_in_each.Reads as reads
 use Rattle.suis.proofs.finding.one_in_each.Lts as lts
-use Rattle.sui.proofs.inner.eve.Reads as eve-reads
+use Rattle.one_sui.proofs.inner.eve.Reads as eve-reads
 use Rattle.suis.proofs.finding.one_more.Reads as one-more-reads
 use Rattle.whole.proofs.inner.add.Reads as add-reads
 

@@ -14,7 +14,7 @@ use Rattle.suis.proofs.finding.too_many.Statement.{statement}
 use Rattle.suis.proofs.finding.too_many.Tie as tie
 use Rattle.suis.proofs.finding.too_many.Reads as reads
 use Rattle.suis.proofs.finding.too_many.Lts as lts
-use Rattle.months.proofs.inner.no_days.Reads as no-days-reads
+use Rattle.month_rule.proofs.inner.no_days.Reads as no-days-reads
 use Rattle.turns.proofs.inner.turns_by.Reads as turns-by-reads
 
 abbrev called : lts.Claims

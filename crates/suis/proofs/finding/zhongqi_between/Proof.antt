@@ -12,7 +12,7 @@ use Rattle.suis.proofs.finding.zhongqi_between.Statement.{statement}
 use Rattle.suis.proofs.finding.zhongqi_between.Tie as tie
 use Rattle.suis.proofs.finding.zhongqi_between.Reads as reads
 use Rattle.suis.proofs.finding.zhongqi_between.Lts as lts
-use Rattle.sui.proofs.inner.zhongqi_day.Reads as zhongqi-day-reads
+use Rattle.one_sui.proofs.inner.zhongqi_day.Reads as zhongqi-day-reads
 
 abbrev called : lts.Claims
 called = (zhongqi-day-reads.Asked, zhongqi-day-reads.Learnt)

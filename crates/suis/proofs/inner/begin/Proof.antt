@@ -24,7 +24,7 @@ use Rattle.suis.proofs.inner.begin.Statement.{statement}
 use Rattle.suis.proofs.inner.begin.Tie as tie
 use Rattle.suis.proofs.inner.begin.Reads as reads
 use Rattle.suis.proofs.inner.begin.Lts as lts
-use Rattle.sui.proofs.inner.eve.Reads as eve-reads
+use Rattle.one_sui.proofs.inner.eve.Reads as eve-reads
 use Rattle.turns.proofs.inner.day_of_turn.Reads as day-of-turn-reads
 use Rattle.turns.proofs.inner.turns_by.Reads as turns-by-reads
 use Rattle.whole.proofs.inner.in_range.Reads as in-range-reads

@@ -15,8 +15,8 @@ use Rattle.suis.proofs.inner.sui_after.Statement.{statement}
 use Rattle.suis.proofs.inner.sui_after.Tie as tie
 use Rattle.suis.proofs.inner.sui_after.Reads as reads
 use Rattle.suis.proofs.inner.sui_after.Lts as lts
-use Rattle.months.proofs.inner.no_sui.Reads as no-sui-reads
-use Rattle.months.proofs.inner.sui_of.Reads as sui-of-reads
+use Rattle.month_rule.proofs.inner.no_sui.Reads as no-sui-reads
+use Rattle.month_rule.proofs.inner.sui_of.Reads as sui-of-reads
 use Rattle.suis.proofs.finding.days_after.Reads as days-after-reads
 
 abbrev called : lts.Claims

@@ -13,8 +13,8 @@ use Rattle.turns.proofs.inner.turns_of.Statement.{statement}
 use Rattle.turns.proofs.inner.turns_of.Tie as tie
 use Rattle.turns.proofs.inner.turns_of.Reads as reads
 use Rattle.turns.proofs.inner.turns_of.Lts as lts
-use Rattle.marks.proofs.inner.first_reached.Reads as first-reached-reads
-use Rattle.marks.proofs.inner.last_reached.Reads as last-reached-reads
+use Rattle.finder.proofs.inner.first_reached.Reads as first-reached-reads
+use Rattle.finder.proofs.inner.last_reached.Reads as last-reached-reads
 use Rattle.turns.proofs.inner.first_turn.Reads as first-turn-reads
 use Rattle.turns.proofs.inner.turns_up_to.Reads as turns-up-to-reads
 

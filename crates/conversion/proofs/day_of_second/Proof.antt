@@ -1,0 +1,37 @@
+-- `conversion::day_of_second` meets its contract. Assumes nothing.
+use mathlib.Core.Path.{ap, _∙_}
+use borrow.Author.Needs.{needs}
+use Rattle.whole.specs.Ranges.{within, bounds}
+use Rattle.refusals.specs.Verdict.{answered, accepted-is, accepted-first, refused-first}
+use Rattle.clock.specs.Clock.{utc8}
+use Rattle.clock.specs.Answers.{dayOfSecond}
+use Rattle.clock.specs.theory.Judged.{readable}
+use Rattle.conversion.proofs.day_of_second.Statement.{statement}
+use Rattle.conversion.proofs.day_of_second.Tie as tie
+
+judge-requires : tie.Need-judge-requires
+judge-requires c κs = search needs
+
+enum-told : tie.Need-enum-told
+enum-told c = search needs
+
+day-in-requires : tie.Need-day-in-requires
+day-in-requires c κs =
+    let start = c .before .before .before in
+    readable (start .args .leap .now) (start .args .second) utc8 (accepted-is (c .before .before .judge .ensures) (c .enum-told .given .1)) (within (search bounds) tt)
+
+enum-known-check : tie.Need-enum-known-check
+enum-known-check c = search needs
+
+returns : tie.Need-returns
+unfolding dayOfSecond
+returns c = ap answered (c .day-in .ensures) ∙ accepted-first _ (c .before .before .before .judge .ensures) (c .before .enum-told .given .1)
+
+returns-2 : tie.Need-returns-2
+unfolding dayOfSecond
+returns-2 c = refused-first _ (c .before .before .before .judge .ensures) (c .before .check .given .1)
+
+pub day-of-second-spec : {M : Type 1} → statement M
+day-of-second-spec =
+    tie.close
+    (tie.spec judge-requires enum-told day-in-requires enum-known-check returns returns-2)

@@ -1,0 +1,4 @@
+pub mod Records
+pub mod OneResult
+pub mod Theorems
+pub mod Examples
