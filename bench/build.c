@@ -140,7 +140,7 @@ static void port_build(const inputs *in, int64_t first, size_t n) {
         const series *s = b ? &in->moon : &in->sun;
         port_index(s, s->start);
         port_index(s, last_second(s->moon, s->start, s->count));
-        port_day(in->leap, in->n, s, port_index(s, s->start) + 1);
+        port_located(s, port_index(s, s->start) + 1);
     }
     turns suns = port_turns(&in->sun), moons = port_turns(&in->moon);
     size_t solstice = port_by(in->leap, in->n, &in->sun, suns, january(first - 1) - 1);

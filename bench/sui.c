@@ -31,10 +31,14 @@ static inline bool holds(const int64_t *entry, int64_t second) {
     return 1000 * (86400 * entry[0] + entry[1]) <= 1000 * second - 32184;
 }
 
-static int64_t day_of(const int64_t *leap, size_t n, int64_t second) {
+static int64_t milli_of(const int64_t *leap, size_t n, int64_t second) {
     size_t i = n - 2;
     while (i > 0 && !holds(leap + i, second)) i -= 2;
-    return floor_div(1000 * second - 32184 - 1000 * leap[i + 1] + 28800000, 86400000);
+    return 1000 * second - 32184 - 1000 * leap[i + 1] + 28800000;
+}
+
+static int64_t day_of(const int64_t *leap, size_t n, int64_t second) {
+    return floor_div(milli_of(leap, n, second), 86400000);
 }
 
 /* the day of the first of January */
@@ -129,9 +133,25 @@ PLAIN(halving, NOTHING, NOTHING)
 PLAIN(halving_counted, COUNTED, marks++;)
 
 /* ---- a port of the proved search, which counts; for accepted inputs and a year that has a sui */
-static int64_t port_day(const int64_t *leap, size_t n, const series *s, int64_t index) {
+static int64_t port_located(const series *s, int64_t index) {
     marks++;
-    return day_of(leap, n, counted_located(s->moon, s->start, s->coefs, s->count, index));
+    return counted_located(s->moon, s->start, s->coefs, s->count, index);
+}
+
+/* The day of a mark: one look encloses its second, and where both ends are of one day it is that one; elsewhere the mark is located. */
+static int64_t port_day(const int64_t *leap, size_t n, const series *s, int64_t index) {
+    int64_t target = index * mark_size(s->moon), last = last_second(s->moon, s->start, s->count);
+    size_t k = segment_for(s->coefs, s->count, target);
+    const int64_t *c = s->coefs + 14 * k;
+    int64_t at = second(s->start, last, k, half_length(s->moon), aim(c[0], c[1], c[2], c[3], target).place);
+    COUNTED int64_t under = target - value_at(s->moon, s->start, s->coefs, at), on = at + floor_div(under, 37);
+    int64_t after = under > 0 ? at : on - 1, by = under <= 0 ? at : last <= on ? last : on + 1;
+    int64_t milli = milli_of(leap, n, by), day = floor_div(milli, 86400000);
+    if (by - after <= 86400 && 1000 * (by - after) <= milli - 86400000 * day) {
+        marks++;
+        return day;
+    }
+    return day_of(leap, n, port_located(s, index));
 }
 
 static int64_t port_index(const series *s, int64_t second) {
@@ -161,7 +181,7 @@ static int64_t port_sui(const int64_t *leap, size_t n, const series *sun, const 
         const series *s = b ? moon : sun;
         port_index(s, s->start);
         port_index(s, last_second(s->moon, s->start, s->count));
-        port_day(leap, n, s, port_index(s, s->start) + 1);
+        port_located(s, port_index(s, s->start) + 1);
     }
     turns suns = port_turns(sun);
     int64_t index = suns.first + 24 * (int64_t)port_by(leap, n, sun, suns, january(year - 1) - 1), zhongqi[13];
