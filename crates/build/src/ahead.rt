@@ -31,17 +31,11 @@ fn newmoon_days() -> [i64; 1666]
     [0; 1666]
 }
 
-// Room for their records: two words a sui, three a month.
+// Room for their records: two words a sui.
 fn sui_words() -> [i64; 256]
     ensures { λ r. ⌜ 256 ≡ length r ⌝ }
 {
     [0; 256]
-}
-
-fn month_words() -> [i64; 4992]
-    ensures { λ r. ⌜ 4992 ≡ length r ⌝ }
-{
-    [0; 4992]
 }
 
 // The file, by the days ahead.
@@ -66,7 +60,8 @@ fn build_from(
     ensures { λ r. ⌜ now (file .exit) ≡ writtenInto (bytesOfYears (inputs (now (leap .entry)) (sunstart .0) (now (sun .entry)) (moonstart .0) (now (moon .entry))) zone first n (length (now (file .entry)))) all-bytes (now (file .entry)) ⌝ }
 {
     let mut suis = sui_words();
-    let mut months = month_words();
+    // Three words a month. A number that the compiler does not know is stored word by word, where zeros, or an array handed over, would be a call of the C library.
+    let mut months: [i64; 4992] = [first; 4992];
     let judged = put_years(
         leap,
         sunstart,

@@ -1,9 +1,11 @@
 -- `build::ahead::build_from` meets its contract. In the needs, `start` is the function's entry. Assumes nothing.
-use mathlib.Core.Path.{_≡_, sym, ap, _∙_}
+use mathlib.Core.Path.{_≡_, refl, sym, ap, _∙_}
 use mathlib.Core.List.{List}
 use Prim.Native.Nat.{ℕ, _*_, _/_, _≤_}
 use native.Mathlib.Omega.{arith}
-use lib.ListN.{length}
+use lib.ListN.{length, length-replicate}
+use mir.Syntax.{w64}
+use mir.Val.{toZ, ofZ}
 use mir.Facts.{toZ-ofZ}
 use Rattle.refusals.specs.Verdict.{Verdict, answered}
 use Rattle.inputs.specs.Inputs.{Inputs, inputs}
@@ -18,7 +20,6 @@ use Rattle.build.proofs.ahead.build_from.Tie as tie
 use Rattle.build.proofs.ahead.build_from.Reads as reads
 use Rattle.build.proofs.ahead.build_from.Lts as lts
 use Rattle.almanac.proofs.inner.write_lawful.Reads as write-lawful-reads
-use Rattle.build.proofs.ahead.month_words.Reads as month-words-reads
 use Rattle.build.proofs.ahead.sui_words.Reads as sui-words-reads
 use Rattle.build.proofs.years.put_years.Reads as put-years-reads
 
@@ -26,8 +27,6 @@ abbrev called : lts.Claims
 called = (
   sui-words-reads.Asked,
   sui-words-reads.Learnt,
-  month-words-reads.Asked,
-  month-words-reads.Learnt,
   put-years-reads.Asked,
   put-years-reads.Learnt,
   write-lawful-reads.Asked,
@@ -41,7 +40,7 @@ abbrev Put : Type 0
 Put = lts.After-put-years called reads.Pre reads.Post
 
 abbrev start-of : Put → Start
-start-of c = c .before .before .before .before .before .before
+start-of c = c .before .before .before .before .before
 
 abbrev inputs-of : Start → Inputs
 inputs-of start = let a = start .args in inputs (a .leap .now) (a .sunstart .0) (a .sun .now) (a .moonstart .0) (a .moon .now)
@@ -70,20 +69,17 @@ few-months c e =
 sui-words-requires : tie.Need-sui-words-requires
 sui-words-requires c κs = search needs
 
-month-words-requires : tie.Need-month-words-requires
-month-words-requires c κs = search needs
-
 slice-aggregate-put-years : tie.Need-slice-aggregate-put-years
 slice-aggregate-put-years c = search needs
 
 slice-aggregate-put-years-2 : tie.Need-slice-aggregate-put-years-2
-slice-aggregate-put-years-2 c = search needs
+slice-aggregate-put-years-2 c = refl
 
 put-years-requires : tie.Need-put-years-requires
 put-years-requires c κs =
-    let start = c .before .before .before .before .before in
+    let start = c .before .before .before .before in
     let few = start .pre .begun .few-years in
-    rw (toZ-ofZ (start .fits .zone), toZ-ofZ (start .fits .first)) (start .pre, (omega (arith, c .before .before .before .sui-words .ensures), omega (arith, c .before .before .month-words .ensures)))
+    rw (toZ-ofZ (start .fits .zone), toZ-ofZ (start .fits .first)) (start .pre, (omega (arith, c .before .before .sui-words .ensures), rw (length-replicate 4992 (toZ w64 (ofZ w64 (start .args .first)))) (omega arith)))
 
 enum-known-judged : tie.Need-enum-known-judged
 enum-known-judged c = search needs
@@ -162,7 +158,6 @@ build-from-spec =
     tie.close
     (tie.spec
     sui-words-requires
-    month-words-requires
     slice-aggregate-put-years
     slice-aggregate-put-years-2
     put-years-requires
