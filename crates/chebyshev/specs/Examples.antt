@@ -2,12 +2,12 @@
 -- first and the last value (`ends`); refusal 3 on both sides (`ranges`). Document 01's starred values stand in the crate `examples`. Assumes nothing.
 use mathlib.Core.Bool.{Bool, not}
 use mathlib.Core.List.{List, [], _∷_, _++_}
-use lib.Dec.{T}
+use lib.Dec.{T, eqb}
 use lib.IntN.{ℤ, pos, negsuc, negℤ, _*ℤ_}
 use Rattle.whole.specs.Floor.{floorDiv}
 use Rattle.whole.specs.Evaluated.{same, all}
 use Rattle.chebyshev.specs.Polynomials.{S, P, Q}
-use Rattle.chebyshev.specs.Segment.{sum, value, exact, divisor, slope, outOfRange}
+use Rattle.chebyshev.specs.Segment.{sum, value, exact, divisor, slope, outOfRange, allowance}
 use Rattle.chebyshev.specs.EndValues.{evenSum, oddSum, squareSum, firstValue, lastValue}
 
 -- c0 - c1 + c2 at the beginning, c0 - c2 in the middle, c0 + c1 + c2 at the end
@@ -79,6 +79,8 @@ values =
     ∷ same (exact bent (pos 0)) (pos 380 *ℤ divisor)
     ∷ same (exact bent (pos S)) (pos 720 *ℤ divisor)
     ∷ same (exact wavy (pos 0)) (pos 1000030785868 *ℤ divisor)
+    -- how far the value may be from the exact sum, in units
+    ∷ eqb allowance 32
     ∷ []
 
 unfoldable pub examples : List Bool

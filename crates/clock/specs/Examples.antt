@@ -81,6 +81,15 @@ examples =
     ∷ same (dayOfMilli (milli (pos 0)) .0) (pos 0)
     ∷ same (dayOfMilli (milli (pos 86399999)) .0) (pos 0)
     ∷ same (dayOfMilli (milli (pos 86400000)) .0) (pos 1)
+    -- both sides of a second, a minute, an hour and a day
+    ∷ isShown (answered (shownOfMilli (milli (pos 999)))) 2000 1 1 0 0 0 999
+    ∷ isShown (answered (shownOfMilli (milli (pos 1000)))) 2000 1 1 0 0 1 0
+    ∷ isShown (answered (shownOfMilli (milli (pos 59999)))) 2000 1 1 0 0 59 999
+    ∷ isShown (answered (shownOfMilli (milli (pos 60000)))) 2000 1 1 0 1 0 0
+    ∷ isShown (answered (shownOfMilli (milli (pos 3599999)))) 2000 1 1 0 59 59 999
+    ∷ isShown (answered (shownOfMilli (milli (pos 3600000)))) 2000 1 1 1 0 0 0
+    ∷ isShown (answered (shownOfMilli (milli (negsuc 0)))) 1999 12 31 23 59 59 999
+    ∷ isShown (answered (shownOfMilli (milli (pos 0)))) 2000 1 1 0 0 0 0
     -- the instants before, inside and after the inserted second: inside it is shown as the second after it
     ∷ isShown (shownOf longer (second (pos 189388864))) 2006 1 1 7 59 59 816
     ∷ isShown (shownOf longer (second (pos 189388865))) 2006 1 1 8 0 0 816

@@ -16,7 +16,7 @@ use Rattle.months.specs.declared.SuiDays.{SuiDays}
 use Rattle.months.specs.declared.Sui.{Sui}
 use Rattle.months.specs.declared.SuiAnswer.{SuiAnswer}
 use Rattle.months.specs.Answers.{suiAnswer, paperSui}
-use Rattle.months.specs.Handles.{numberAt, leapMark, handle, handleAt, monthOf, noMonth}
+use Rattle.months.specs.Handles.{numberAt, leapMark, handle, handleAt, monthOf}
 use Rattle.months.specs.Months.{notAfter, lastNotAfter, byFirst, bySecond, isMissing, moonMissing, monthCount, twelveOrThirteen, daysFound, daysOf, monthLength, isWithin, zhongqiIn, zhongqiOf, without, firstWithout, leapMonth, monthAt, numbered, goodLength, badMonth, firstBadMonth, lengthsJudged, noneWithout, leapMonthJudged, suiOf, suiIn}
 use Rattle.months.specs.Limits.{yearInRange, rising, dayInRange, inRange, daysKept, listsKept, monthsOf}
 
@@ -55,14 +55,18 @@ sameMonths [] (b ∷ bs) = false
 sameMonths (a ∷ as′) [] = false
 sameMonths (a ∷ as′) (b ∷ bs) = same (a .handle) (b .handle) && (same (a .first) (b .first) && (same (a .length) (b .length) && sameMonths as′ bs))
 
+-- what stands where there is no month
+abbrev zeros : Month
+zeros = record { handle = pos 0; first = pos 0; length = pos 0 }
+
 -- these months, and nothing behind them
 abbrev pub isSui : Verdict Sui → List Month → Bool
-isSui (answered sui) months = eqb (sui .count) (length months) && sameMonths (sui .months) (months ++ replicate (13 - length months) noMonth)
+isSui (answered sui) months = eqb (sui .count) (length months) && sameMonths (sui .months) (months ++ replicate (13 - length months) zeros)
 isSui (refused number segment) months = false
 
 -- a refusal by this number, and nothing beside it
 abbrev isRefusal : SuiAnswer → ℕ → Bool
-isRefusal r number = isRefused (paperSui r) number && (eqb (r .sui .count) 0 && sameMonths (r .sui .months) (replicate 13 noMonth))
+isRefusal r number = isRefused (paperSui r) number && (eqb (r .sui .count) 0 && sameMonths (r .sui .months) (replicate 13 zeros))
 
 -- ---- document 01's lists
 abbrev pub moons : List ℕ

@@ -36,6 +36,10 @@ moon = series Moon (pos 0) (three (pos 4103999999) (pos 864000000) (pos 0))
 abbrev pub joined : ℕ → Series
 joined c0 = series Sun (pos 0) (sunSegment ++ three (pos c0) (pos 552960000) (pos 0))
 
+-- and with a third, behind one that ends with 2,211,839,700
+abbrev thrice : ℕ → Series
+thrice c0 = series Sun (pos 0) (sunSegment ++ three (pos 1658880100) (pos 552960000) (pos 0) ++ three (pos c0) (pos 552960000) (pos 0))
+
 -- the Moon's likewise, whose first ends with 4,967,994,999
 abbrev pub joinedMoon : ℕ → Series
 joinedMoon c0 = series Moon (pos 0) (three (pos 4103999999) (pos 864000000) (pos 0) ++ three (pos c0) (pos 864000000) (pos 0))
@@ -110,6 +114,9 @@ bothSides =
     ∷ isRefusedAt (seriesJudged (joinedMoon 5831995198)) 5 1
     ∷ isAccepted (seriesJudged (joinedMoon 5832094999))
     ∷ isRefusedAt (seriesJudged (joinedMoon 5832095000)) 5 1
+    -- a joint is with the segment before it: 200 and 199 at the third of three
+    ∷ isAccepted (seriesJudged (thrice 2764799900))
+    ∷ isRefusedAt (seriesJudged (thrice 2764799899)) 5 2
     ∷ isRefused (valueOf sun (negℤ (pos 1))) 6
     ∷ isValue (pos 1105919600) (valueOf sun (pos 2764799))
     ∷ isRefused (valueOf sun (pos 2764800)) 6
