@@ -27,8 +27,8 @@ use Rattle.listing.specs.Listing.{lineOf, linesBy, linesOf, listed, listedWords
 use Rattle.examples.specs.Listed.{sun-lists, moon-lists}
 
 -- the input: leap (-365, 32), a segment of the Sun and one of the Moon, each with its count and start
-abbrev ownWords : List ℤ
-ownWords = (pos 1 ∷ table) ++ (pos 1 ∷ sun .start ∷ sun .coefs) ++ (pos 1 ∷ moon .start ∷ moon .coefs)
+abbrev inputWords : List ℤ
+inputWords = (pos 1 ∷ table) ++ (pos 1 ∷ sun .start ∷ sun .coefs) ++ (pos 1 ∷ moon .start ∷ moon .coefs)
 
 abbrev inBytes : List ℤ → List ℕ
 inBytes [] = []
@@ -63,11 +63,11 @@ is-listed : listed (under table) ≡ answered threeLines
 unfolding listed
 is-listed = ap₂ (λ (v : Verdict (Unit {0})) (l : List (List ℕ)). v before answered l) all-good lines-are
 
-bytes-are : listedBytes (inBytes ownWords) ≡ listed (under table)
+bytes-are : listedBytes (inBytes inputWords) ≡ listed (under table)
 unfolding listedBytes listedWords words places sectionEnd
 bytes-are = refl
 
-pub worked-listing : listing (inBytes ownWords) ≡ threeLines
+pub worked-listing : listing (inBytes inputWords) ≡ threeLines
 worked-listing = ap printed (bytes-are ∙ is-listed)
 
 -- a table that begins on day 0 is later than the Moon's mark, at second 1, and no other
