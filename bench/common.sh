@@ -1,4 +1,4 @@
-# Sourced by bench/run and tests/c_interface: links C programs with the library of include/hazomekyu.h for x86-64 Linux, and runs them as the toolchain runs programs:
+# Sourced by bench/run, bench/stack and tests/c_interface: links C programs with the library of include/hazomekyu.h for x86-64 Linux, and runs them as the toolchain runs programs:
 # where the machine is another, under its emulator, and then ratios of times alone mean something. CC=name takes another C compiler, with everything of its own.
 # EMULATED=words are handed to the emulator: '-cpu max,-erms' has the C library clear memory without `rep stosb`, which the emulator does byte by byte.
 
@@ -21,12 +21,18 @@ linked() { # SOURCE: compiled, and linked with the library, under its own name
         "$libs/libc.so.6" "$libs/libc_nonshared.a" "$libs/crtendS.o" "$libs/crtn.o" -o "$program"
 }
 
+start() { # PROGRAM ARGUMENTS..: where `kibibytes` is set, with a stack of so many and nothing in the environment
+    if [ -z "${CC:-}" ] && [ -x "$tools/bin/qemu-x86_64" ]; then
+        ${kibibytes:+env -i} "$tools/bin/qemu-x86_64" ${EMULATED:-} ${kibibytes:+-s "${kibibytes}k"} "$tools/lib/ld-linux-x86-64.so.2" --library-path "$tools/lib" "$@"
+    elif [ -n "${kibibytes:-}" ]; then
+        (ulimit -s "$kibibytes" && exec env -i "$@")
+    else
+        "$@"
+    fi
+}
+
 run() { # NAME ARGUMENTS..
     program=$made/$1
     shift
-    if [ -z "${CC:-}" ] && [ -x "$tools/bin/qemu-x86_64" ]; then
-        "$tools/bin/qemu-x86_64" ${EMULATED:-} "$tools/lib/ld-linux-x86-64.so.2" --library-path "$tools/lib" "$program" "$@"
-    else
-        "$program" "$@"
-    fi
+    start "$program" "$@"
 }

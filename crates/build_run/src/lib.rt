@@ -4,13 +4,14 @@ use almanac::WriteAnswer;
 use building::SeriesAnswer;
 use refusals::Refusal;
 ghost use mathlib.Core.Path.{_≡_};
+ghost use Prim.Native.Nat.{_+_, _≤_};
 ghost use lib.ListN.{length};
 
-// Room for the longest input, and one byte more, by which a longer one is known.
-fn input_room() -> [u8; 2017081]
-    ensures { λ r. ⌜ 2017081 ≡ length r ⌝ }
+// Room for all the words of the longest input: 64 leap entries, 2,000 segments of the Sun, 16,000 of the Moon.
+fn word_room() -> [i64; 252135]
+    ensures { λ r. ⌜ 252135 ≡ length r ⌝ }
 {
-    [0; 2017081]
+    [0; 252135]
 }
 
 // Room for the largest file: 64 leap entries, 128 suis of 13 months.
@@ -39,8 +40,8 @@ fn print_refusal(r: Refusal) {
 }
 
 // Says on standard error whose series is refused; for other refusals nothing.
-fn print_series(input: &[u8]) {
-    match building::refused_series(input) {
+fn print_series(words: &[i64], bytes: usize) {
+    match building::refused_series(words, bytes) {
         SeriesAnswer::Sun => {
             io::write_all(libc::STDERR_FILENO, b"the Sun's series\n");
         }
@@ -51,13 +52,13 @@ fn print_series(input: &[u8]) {
     }
 }
 
-fn print_built(input: &[u8]) {
+fn print_built(words: &[i64], bytes: usize) {
     let mut file = file_room();
-    let answer = building::build_bytes(input, &mut file);
+    let answer = building::build_taken(words, bytes, &mut file);
     match answer {
         WriteAnswer::Refused(r) => {
             print_refusal(r);
-            print_series(input);
+            print_series(words, bytes);
         }
         WriteAnswer::Written(n) => {
             io::write_all(libc::STDOUT_FILENO, &file[..n]);
@@ -65,9 +66,37 @@ fn print_built(input: &[u8]) {
     }
 }
 
+// Takes the next piece that is read, and says how many bytes are taken now: fewer than 65,536 more where the input ends.
+fn take_next(fd: i32, taken: usize, words: &mut [i64]) -> usize
+    requires { ⌜ taken ≤ 2017080 ⌝ }
+    requires { ⌜ length (now words) ≡ 252135 ⌝ }
+    ensures { λ r. ⌜ r ≤ taken + 65536 ⌝ }
+    ensures { λ _. ⌜ length (now (words .exit)) ≡ 252135 ⌝ }
+{
+    let mut piece = io::large_buffer();
+    let n = io::read_full(fd, &mut piece);
+    building::inner::take(&piece[..n], taken, words)
+}
+
+// Takes an input piece by piece until it ends, or until it is too long, and says how many bytes it has then.
+fn take_all(fd: i32, words: &mut [i64]) -> usize
+    requires { ⌜ length (now words) ≡ 252135 ⌝ }
+    ensures { λ _. ⌜ length (now (words .exit)) ≡ 252135 ⌝ }
+{
+    let mut taken = 0;
+    while taken <= 2017080 {
+        let before = taken;
+        taken = take_next(fd, before, words);
+        if taken < before + 65536 {
+            return taken;
+        }
+    }
+    taken
+}
+
 // Builds the file that is asked for by the words that are read from a descriptor.
 pub fn build_from(fd: i32) {
-    let mut input = input_room();
-    let n = io::read_full(fd, &mut input);
-    print_built(&input[..n]);
+    let mut words = word_room();
+    let bytes = take_all(fd, &mut words);
+    print_built(&words, bytes);
 }

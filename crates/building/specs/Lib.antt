@@ -2,5 +2,6 @@ pub mod Building
 pub mod Refused
 pub mod theory
 pub mod Theorems
+pub mod Pieces
 pub mod OneResult
 pub mod Examples

@@ -6,7 +6,7 @@ use mathlib.Core.List.{List}
 use Prim.Native.Nat.{ℕ, _/_, _%_}
 use lib.Dec.{ltb, eqb}
 use lib.IntN.{ℤ}
-use lib.ListN.{length, drop}
+use lib.ListN.{length, take, drop}
 use Rattle.refusals.specs.Verdict.{Verdict, answered, refused, refuseWhen}
 use Rattle.words.specs.Words.{words}
 use Rattle.clock.specs.Answers.{leapJudged}
@@ -15,6 +15,7 @@ use Rattle.inputs.specs.Inputs.{Inputs, sun, moon}
 use Rattle.layout.specs.Layout.{places, inputsAt}
 use Rattle.building.specs.declared.SeriesAnswer.{SeriesAnswer}
 use Rattle.building.specs.declared.SeriesAnswer.the-variants.{Sun, Moon, Neither}
+use Rattle.building.specs.Building.{allTaken}
 
 -- neither, unless the first is answered
 infixr 5 _leads-to_
@@ -41,3 +42,7 @@ refusedSeries bytes =
     refuseWhen (ltb 2017080 (length bytes)) 13 leads-to (λ _.
     refuseWhen (not (eqb (length bytes % 8) 0)) 13 leads-to (λ _.
     refusedInWords (words bytes (length bytes / 8))))
+
+-- the same once so many bytes were taken in pieces
+unfoldable pub refusedInTaken : List ℤ → ℕ → SeriesAnswer
+refusedInTaken ws bytes = refuseWhen (not (allTaken ws bytes)) 13 leads-to (λ _. refusedInWords (take (bytes / 8) ws))

@@ -1,12 +1,12 @@
 -- The record of answers and refusals, and the room of a sui's months on both sides of what they take, each a computed fact, and all of them checked at once.
 -- Assumes nothing.
-use mathlib.Core.Bool.{Bool, true, false, not, _&&_}
+use mathlib.Core.Bool.{Bool, true, false, not}
 use mathlib.Core.List.{List, [], _∷_}
 use Prim.Native.Nat.{ℕ, _^_, _-_}
 use lib.Dec.{T}
 use lib.IntN.{ℤ, pos, negsuc}
 use lib.ListN.{length, replicate}
-use Rattle.whole.specs.Evaluated.{same, all}
+use Rattle.whole.specs.Evaluated.{same, all, sameWords}
 use Rattle.refusals.specs.Verdict.{Verdict, answered, refused, accepted}
 use Rattle.refusals.specs.Evaluated.{isAccepted, isRefused}
 use Rattle.refusals.specs.Lent.{writtenInto}
@@ -19,12 +19,6 @@ use Rattle.exports.specs.Record.{numberOf, recordOf, noNumbers, dateNumb
 use Rattle.exports.specs.Months.{suiWords, suiInto, suiNumbers}
 
 -- ---- how the examples are written
-abbrev sameWords : List ℤ → List ℤ → Bool
-sameWords [] [] = true
-sameWords [] (b ∷ bs) = false
-sameWords (a ∷ l) [] = false
-sameWords (a ∷ l) (b ∷ bs) = same a b && sameWords l bs
-
 -- nine words
 abbrev nine : ℤ → ℤ → ℤ → ℤ → ℤ → ℤ → ℤ → ℤ → ℤ → List ℤ
 nine a b c d e f g h i = a ∷ b ∷ c ∷ d ∷ e ∷ f ∷ g ∷ h ∷ i ∷ []

@@ -8,7 +8,7 @@ use lib.IntN.{ℤ, pos, negsuc}
 use lib.ListN.{replicate}
 use Rattle.refusals.specs.Verdict.{Verdict, answered, refused, _then_}
 use Rattle.refusals.specs.Evaluated.{isAccepted, isRefused}
-use Rattle.whole.specs.Evaluated.{same, all, sameNumbers}
+use Rattle.whole.specs.Evaluated.{same, all, sameNumbers, sameWords}
 use Rattle.whole.specs.Floor.{floorDiv, floorMod}
 use Rattle.whole.specs.Below.{every, lastBelow}
 use Rattle.words.specs.Words.{words}
@@ -32,12 +32,6 @@ isPlaces sun moon (refused number segment) = false
 abbrev counted : ℕ → ℕ → List ℤ
 counted k zero = []
 counted k (suc n) = pos k ∷ counted (suc k) n
-
-abbrev sameWords : List ℤ → List ℤ → Bool
-sameWords [] [] = true
-sameWords [] (b ∷ bs) = false
-sameWords (a ∷ as′) [] = false
-sameWords (a ∷ as′) (b ∷ bs) = same a b && sameWords as′ bs
 
 -- an entry, a segment of the Sun and one of the Moon, each word another
 abbrev given : List ℤ

@@ -6,19 +6,13 @@ use Prim.Native.Nat.{ℕ}
 use lib.Dec.{T, eqb}
 use lib.IntN.{ℤ, pos, negsuc}
 use lib.ListN.{replicate}
-use Rattle.whole.specs.Evaluated.{all, same, sameNumbers}
+use Rattle.whole.specs.Evaluated.{all, sameNumbers, sameWords}
 use Rattle.packing.specs.declared.PackAnswer.{PackAnswer}
 use Rattle.packing.specs.declared.PackAnswer.the-variants.{Packed, Bad, Room}
 use Rattle.packing.specs.Reading.{afterDigit, beginning, inWord, atNext, beganAt, step, endOf, endedBy}
 use Rattle.packing.specs.Packing.{Scanned, numbers, bad, scan, start, bytesOf, packed, held}
 
 -- ---- how the examples are written
-abbrev sameWords : List ℤ → List ℤ → Bool
-sameWords [] [] = true
-sameWords [] (b ∷ bs) = false
-sameWords (a ∷ as′) [] = false
-sameWords (a ∷ as′) (b ∷ bs) = same a b && sameWords as′ bs
-
 -- a text has these words, or its first bad word stands there
 abbrev hasWords : Scanned → List ℤ → Bool
 hasWords (numbers zs) expected = sameWords zs expected

@@ -21,3 +21,10 @@ sameNumbers [] [] = true
 sameNumbers [] (b ∷ bs) = false
 sameNumbers (a ∷ as′) [] = false
 sameNumbers (a ∷ as′) (b ∷ bs) = eqb a b && sameNumbers as′ bs
+
+-- two lists of words
+abbrev pub sameWords : List ℤ → List ℤ → Bool
+sameWords [] [] = true
+sameWords [] (b ∷ bs) = false
+sameWords (a ∷ as′) [] = false
+sameWords (a ∷ as′) (b ∷ bs) = same a b && sameWords as′ bs

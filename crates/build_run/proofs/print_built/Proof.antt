@@ -8,7 +8,7 @@ use lib.Seq.{length-take-le}
 use Rattle.refusals.specs.Verdict.{Verdict, answered, refused, answers-apart, answer-or-refusal}
 use Rattle.refusals.specs.Lent.{writtenInto}
 use Rattle.almanac.specs.Answers.{paperWritten, bytesCounted, all-bytes}
-use Rattle.building.specs.Building.{builtFrom}
+use Rattle.building.specs.Building.{builtFromTaken}
 use borrow.Author.Needs.{needs}
 use Rattle.build_run.proofs.print_built.Statement.{statement}
 use Rattle.build_run.proofs.print_built.Tie as tie
@@ -17,7 +17,7 @@ use Rattle.build_run.proofs.print_built.Lts as lts
 use Rattle.build_run.proofs.file_room.Reads as file-room-reads
 use Rattle.build_run.proofs.print_refusal.Reads as print-refusal-reads
 use Rattle.build_run.proofs.print_series.Reads as print-series-reads
-use Rattle.building.proofs.build_bytes.Reads as build-bytes-reads
+use Rattle.building.proofs.build_taken.Reads as build-taken-reads
 use Rattle.io.proofs.write_all.Reads as write-all-reads
 
 -- as many bytes as were written are in the file
@@ -28,11 +28,11 @@ inside (refused number segment) file p q = answer-or-refusal p
 file-room-requires : tie.Need-file-room-requires
 file-room-requires c κs = search needs
 
-slice-aggregate-build-bytes : tie.Need-slice-aggregate-build-bytes
-slice-aggregate-build-bytes c = search needs
+slice-aggregate-build-taken : tie.Need-slice-aggregate-build-taken
+slice-aggregate-build-taken c = search needs
 
-build-bytes-requires : tie.Need-build-bytes-requires
-build-bytes-requires c κs = search needs
+build-taken-requires : tie.Need-build-taken-requires
+build-taken-requires c κs = search needs
 
 enum-known-answer : tie.Need-enum-known-answer
 enum-known-answer c = search needs
@@ -50,13 +50,15 @@ array-share-prefix-file : tie.Need-array-share-prefix-file
 array-share-prefix-file c =
     let told = c .before in
     let built = told .before .before .before in
-    inside (builtFrom (built .before .before .before .before .args .input .now) _) _ (sym (ap paperWritten (told .answer2 .given .1)) ∙ built .build-bytes .ensures .0) (built .build-bytes .ensures .1)
+    let a = built .before .before .before .args in
+    inside (builtFromTaken (a .words .now) (a .bytes) _) _ (sym (ap paperWritten (told .answer2 .given .1)) ∙ built .build-taken .ensures .0) (built .build-taken .ensures .1)
 
 slice-aggregate-write-all : tie.Need-slice-aggregate-write-all
 slice-aggregate-write-all c =
     let told = c .before .before in
     let built = told .before .before .before in
-    sym (length-take-le _ _ (inside (builtFrom (built .before .before .before .before .args .input .now) _) _ (sym (ap paperWritten (told .answer2 .given .1)) ∙ built .build-bytes .ensures .0) (built .build-bytes .ensures .1)))
+    let a = built .before .before .before .args in
+    sym (length-take-le _ _ (inside (builtFromTaken (a .words .now) (a .bytes) _) _ (sym (ap paperWritten (told .answer2 .given .1)) ∙ built .build-taken .ensures .0) (built .build-taken .ensures .1)))
 
 write-all-requires : tie.Need-write-all-requires
 write-all-requires c κs = search needs
@@ -72,8 +74,8 @@ print-built-spec =
     tie.close
     (tie.spec
     file-room-requires
-    slice-aggregate-build-bytes
-    build-bytes-requires
+    slice-aggregate-build-taken
+    build-taken-requires
     enum-known-answer
     print-refusal-requires
     print-series-requires

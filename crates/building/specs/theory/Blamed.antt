@@ -1,20 +1,21 @@
--- The cases of `refusedSeries`. Assumes nothing.
+-- The cases of `refusedInTaken`. Assumes nothing.
 use mathlib.Core.Path.{_≡_, refl, sym}
+use mathlib.Core.Bool.{true, false}
 use mathlib.Core.List.{List}
 use Prim.Native.Nat.{ℕ, _/_, _%_, _≤_, _<_}
 use borrow.Author.Tests.{lt-ltb, le-ltb, eq-eqb, ne-eqb}
 use lib.IntN.{ℤ}
-use lib.ListN.{length, drop}
+use lib.ListN.{length, take, drop}
 use Rattle.refusals.specs.declared.Refusal.{Refusal}
 use Rattle.refusals.specs.declared.Check.{Check}
 use Rattle.refusals.specs.declared.Check.the-variants.{Accepted, Refused}
 use Rattle.refusals.specs.Verdict.{Verdict, answered, refused, paperCheck}
-use Rattle.words.specs.Words.{words}
 use Rattle.layout.specs.declared.inner.Places.{Places}
 use Rattle.layout.specs.Layout.{places, inputsAt}
 use Rattle.building.specs.declared.SeriesAnswer.{SeriesAnswer}
 use Rattle.building.specs.declared.SeriesAnswer.the-variants.{Neither}
-use Rattle.building.specs.Refused.{_leads-to_, blamed, refusedOf, refusedInRest, refusedInWords, refusedSeries}
+use Rattle.building.specs.Building.{allTaken}
+use Rattle.building.specs.Refused.{_leads-to_, blamed, refusedOf, refusedInRest, refusedInWords, refusedInTaken}
 
 -- ---- one link of the chain: a check that refuses ends it, one that accepts goes on
 pub ends : {q : Check} {r : Refusal} {u : Verdict (Unit {0})} (f : Unit {0} → SeriesAnswer) → paperCheck q ≡ u → q ≡ Refused r → Neither ≡ u leads-to f
@@ -47,16 +48,11 @@ module _ (ws : List ℤ) where
   unfolding refusedInWords
   enough h = rw (le-ltb (length ws) 2 h)
 
-module _ (bytes : List ℕ) where
-  pub too-long : 2017080 < length bytes → Neither ≡ refusedSeries bytes
-  unfolding refusedSeries
-  too-long h = rw (lt-ltb 2017080 (length bytes) h)
+module _ (ws : List ℤ) (bytes : ℕ) where
+  pub not-taken : allTaken ws bytes ≡ false → Neither ≡ refusedInTaken ws bytes
+  unfolding refusedInTaken
+  not-taken e = rw e
 
-  module _ (short : length bytes ≤ 2017080) where
-    pub not-in-words : (length bytes % 8 ≡ 0 → ⊥) → Neither ≡ refusedSeries bytes
-    unfolding refusedSeries
-    not-in-words e = rw (le-ltb 2017080 (length bytes) short, ne-eqb (length bytes % 8) 0 e)
-
-    pub in-words : length bytes % 8 ≡ 0 → refusedSeries bytes ≡ refusedInWords (words bytes (length bytes / 8))
-    unfolding refusedSeries
-    in-words e = rw (le-ltb 2017080 (length bytes) short, eq-eqb (length bytes % 8) 0 e)
+  pub taken : allTaken ws bytes ≡ true → refusedInTaken ws bytes ≡ refusedInWords (take (bytes / 8) ws)
+  unfolding refusedInTaken
+  taken e = rw e

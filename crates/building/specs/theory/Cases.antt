@@ -1,20 +1,23 @@
 -- The cases of the definition, and the two promises that each of them keeps. Assumes nothing.
 use mathlib.Core.Path.{_≡_, refl, sym}
-use mathlib.Core.List.{List, _++_}
-use Prim.Native.Nat.{ℕ, _/_, _%_, _≤_, _<_}
-use borrow.Author.Tests.{lt-ltb, le-ltb, eq-eqb, ne-eqb}
+use mathlib.Core.Bool.{true, false, _&&_}
+use mathlib.Core.List.{List}
+use Prim.Native.Nat.{ℕ, _+_, _/_, _%_, _≤_, _<_}
+use borrow.Author.Tests.{lt-ltb, le-ltb, eq-eqb, ne-eqb, leb-true}
+use lib.Dec.{leb, eqb}
 use lib.IntN.{ℤ, pos}
 use lib.ListN.{length, getD, take, drop}
-use lib.Seq.{take-at}
+use Rattle.whole.specs.Booleans.{both}
+use Rattle.whole.specs.Lists.{placed}
 use Rattle.refusals.specs.Verdict.{Verdict, answered, refused}
 use Rattle.refusals.specs.Lent.{writtenInto}
-use Rattle.words.specs.Words.{words, words-length}
+use Rattle.words.specs.Words.{words}
 use Rattle.clock.specs.Clock.{utc8}
 use Rattle.layout.specs.declared.inner.Places.{Places}
 use Rattle.layout.specs.Layout.{places, inputsAt}
 use Rattle.almanac.specs.Answers.{bytesCounted, all-bytes}
 use Rattle.build.specs.Build.{bytesBuilt}
-use Rattle.building.specs.Building.{builtFromRest, builtFromWords, builtFrom}
+use Rattle.building.specs.Building.{builtFromRest, builtFromWords, pieceTaken, allTaken, builtFromTaken}
 
 -- what a function answers, and what it leaves in the lent file, by what is to be written
 abbrev pub Promises : Verdict (List ℕ) → List ℕ → Verdict ℕ → List ℕ → Type 0
@@ -45,20 +48,33 @@ module _ (ws : List ℤ) (room : ℕ) where
   unfolding builtFromWords
   enough h = rw (le-ltb (length ws) 2 h)
 
-module _ (bytes : List ℕ) (room : ℕ) where
-  pub too-long : 2017080 < length bytes → builtFrom bytes room ≡ refused 13 0
-  unfolding builtFrom
-  too-long h = rw (lt-ltb 2017080 (length bytes) h)
+-- bytes whose words were all taken are not too many, and the room has their words
+pub bounded : (ws : List ℤ) (bytes : ℕ) → allTaken ws bytes ≡ true → (bytes ≤ 2017080) × (bytes / 8 ≤ length ws)
+unfolding allTaken
+bounded ws bytes e =
+    let all = both (leb bytes 2017080 && eqb (bytes % 8) 0) (leb (bytes / 8) (length ws)) e in
+    (leb-true bytes 2017080 (both (leb bytes 2017080) (eqb (bytes % 8) 0) (all .0) .0), leb-true (bytes / 8) (length ws) (all .1))
 
-  module _ (short : length bytes ≤ 2017080) where
-    pub not-in-words : (length bytes % 8 ≡ 0 → ⊥) → builtFrom bytes room ≡ refused 13 0
-    unfolding builtFrom
-    not-in-words e = rw (le-ltb 2017080 (length bytes) short, ne-eqb (length bytes % 8) 0 e)
+module _ (ws : List ℤ) (bytes room : ℕ) where
+  pub not-taken : allTaken ws bytes ≡ false → builtFromTaken ws bytes room ≡ refused 13 0
+  unfolding builtFromTaken
+  not-taken e = rw e
 
-    pub in-words : length bytes % 8 ≡ 0 → builtFrom bytes room ≡ builtFromWords (words bytes (length bytes / 8)) room
-    unfolding builtFrom
-    in-words e = rw (le-ltb 2017080 (length bytes) short, eq-eqb (length bytes % 8) 0 e)
+  pub taken : allTaken ws bytes ≡ true → builtFromTaken ws bytes room ≡ builtFromWords (take (bytes / 8) ws) room
+  unfolding builtFromTaken
+  taken e = rw e
 
--- the words that were read
-pub words-read : (input : List ℕ) (n : ℕ) (rest : List ℤ) {last : List ℤ} → last ≡ words input n ++ drop n rest → take n last ≡ words input n
-words-read input n rest e = rw e (take-at (words input n) (drop n rest) n (words-length input n))
+-- ---- a piece: only counted, or kept
+module _ (taken : ℕ) (piece : List ℕ) (room : List ℤ) where
+  pub piece-too-long : 2017080 < taken + length piece → room ≡ pieceTaken taken piece room
+  unfolding pieceTaken
+  piece-too-long h = rw (lt-ltb 2017080 (taken + length piece) h)
+
+  module _ (short : taken + length piece ≤ 2017080) where
+    pub piece-inside-a-word : (taken % 8 ≡ 0 → ⊥) → room ≡ pieceTaken taken piece room
+    unfolding pieceTaken
+    piece-inside-a-word e = rw (le-ltb 2017080 (taken + length piece) short, ne-eqb (taken % 8) 0 e)
+
+    pub piece-kept : taken % 8 ≡ 0 → pieceTaken taken piece room ≡ placed (taken / 8) (words piece (length piece / 8)) room
+    unfolding pieceTaken
+    piece-kept e = rw (le-ltb 2017080 (taken + length piece) short, eq-eqb (taken % 8) 0 e)

@@ -1,0 +1,88 @@
+-- `building::inner::take` meets its contract. Assumes nothing.
+use mathlib.Core.Path.{_≡_, refl, sym, ap, _∙_}
+use mathlib.Core.List.{List, _++_, append-assoc}
+use Prim.Native.Nat.{ℕ, _+_, _-_, _/_, _≤_}
+use native.Mathlib.Omega.{arith}
+use lib.IntN.{ℤ}
+use lib.ListN.{length, take, drop, take-append-drop, length-drop}
+use lib.Seq.{drop-append-le, drop-drop}
+use borrow.Rule.Slice.PartMut.{midOf, postOf, putMid, mid-len}
+use Rattle.whole.specs.Lists.{placed}
+use Rattle.words.specs.Words.{words, words-length}
+use Rattle.building.specs.theory.Cases.{piece-too-long, piece-inside-a-word, piece-kept}
+use borrow.Author.Needs.{needs}
+use Rattle.building.proofs.inner.take.Statement.{statement}
+use Rattle.building.proofs.inner.take.Tie as tie
+use Rattle.building.proofs.inner.take.Reads as reads
+use Rattle.building.proofs.inner.take.Lts as lts
+use Rattle.words.proofs.inner.read_words.Reads as read-words-reads
+
+-- a part of a list whose front is replaced, put back, is that front placed in the list
+put-back : (ws part : List ℤ) (a k m : ℕ) → length part ≡ m → m ≤ length (midOf a k ws) → putMid a k ws (part ++ drop m (midOf a k ws)) ≡ placed a part ws
+put-back ws part a k m size fits =
+    ap (λ (l : List ℤ). take a ws ++ l) (append-assoc part (drop m (midOf a k ws)) (postOf a k ws) ∙ ap (λ (l : List ℤ). part ++ l) behind)
+    ∙ sym (append-assoc (take a ws) part (drop (a + length part) ws))
+  where
+    behind : drop m (midOf a k ws) ++ postOf a k ws ≡ drop (a + length part) ws
+    behind =
+        sym (drop-append-le m (midOf a k ws) (postOf a k ws) fits)
+        ∙ ap (drop m) (take-append-drop k (drop a ws))
+        ∙ drop-drop m a ws
+        ∙ ap (λ (n : ℕ). drop (a + n) ws) (sym size)
+
+add-bytes : tie.Need-add-bytes
+add-bytes c = search needs
+
+returns : tie.Need-returns
+returns c = let a = c .before .before .args in (refl, piece-too-long (a .taken) (a .piece .now) (a .words .now) (c .if1 .taken))
+
+returns-2 : tie.Need-returns-2
+returns-2 c = let a = c .before .before .before .args in (refl, piece-inside-a-word (a .taken) (a .piece .now) (a .words .now) (c .before .if1 .left) (c .if2 .taken))
+
+mul-read-words : tie.Need-mul-read-words
+mul-read-words c = search needs
+
+sub-read-words : tie.Need-sub-read-words
+sub-read-words c = search needs
+
+part-read-words-start : tie.Need-part-read-words-start
+part-read-words-start c = search needs
+
+part-read-words-end : tie.Need-part-read-words-end
+part-read-words-end c = search needs
+
+read-words-requires : tie.Need-read-words-requires
+read-words-requires c κs = search needs
+
+same-length : tie.Need-same-length
+same-length c = search needs
+
+returns-3 : tie.Need-returns-3
+returns-3 c =
+    let start = c .before .before .before .before .before .before in
+    let a = start .args in
+    let ws = a .words .now in
+    let from = a .taken / 8 in
+    let m = length (a .piece .now) / 8 in
+    let short = c .before .before .before .before .if1 .left in
+    let fits : m ≤ length (midOf from (length ws - from) ws) = omega (arith, mid-len from (length ws) ws (omega arith), start .pre) in (
+      refl,
+      ap (putMid from (length ws - from) ws) (c .before .read-words .ensures)
+          ∙ put-back ws (words (a .piece .now) m) from (length ws - from) m (words-length (a .piece .now) m) fits
+          ∙ sym (piece-kept (a .taken) (a .piece .now) ws short (c .before .before .before .if2 .left)),
+    )
+
+pub take-spec : {M : Type 1} → statement M
+take-spec =
+    tie.close
+    (tie.spec
+    add-bytes
+    returns
+    returns-2
+    mul-read-words
+    sub-read-words
+    part-read-words-start
+    part-read-words-end
+    read-words-requires
+    same-length
+    returns-3)
