@@ -10,7 +10,7 @@ use lib.Dec.{ltb, eqb}
 use lib.IntN.{ℤ}
 use lib.ListN.{length, getD, take, drop, length-append, take-append-drop, List·getD-append}
 use lib.Seq.{getD-append-add}
-use Rattle.whole.specs.Lists.{placed, take-placed}
+use Rattle.whole.specs.Lists.{placed, placed-length, take-placed}
 use Rattle.words.specs.Words.{word8, words, words-length}
 use Rattle.building.specs.Building.{pieceTaken, allTaken, builtFrom, builtFromTaken}
 use Rattle.building.specs.Refused.{refusedInTaken, refusedSeries}
@@ -108,3 +108,46 @@ module _ (input : List ℕ) (ws : List ℤ) (held : Held input ws) where
       go true l whole w = rw (l, lt-leb (length input) 2017080 (ltb-true 2017080 (length input) l))
       go false l false w = rw (l, w, le-leb (length input) 2017080 (ltb-false 2017080 (length input) l))
       go false l true w = let short = ltb-false 2017080 (length input) l in rw (l, w, le-leb (length input) 2017080 short, le-leb (length input / 8) (length ws) (enough short), held short)
+
+-- ---- however an input is cut
+-- its pieces, taken one after another behind so many bytes
+abbrev pub allPieces : ℕ → List (List ℕ) → List ℤ → List ℤ
+allPieces taken [] room = room
+allPieces taken (piece ∷ pieces) room = allPieces (taken + length piece) pieces (pieceTaken taken piece room)
+
+abbrev pub joined : List (List ℕ) → List ℕ
+joined [] = []
+joined (piece ∷ pieces) = piece ++ joined pieces
+
+-- every piece but the last has whole words
+abbrev pub CutAtWords : List (List ℕ) → Type 0
+CutAtWords [] = Unit {0}
+CutAtWords (piece ∷ []) = Unit {0}
+CutAtWords (piece ∷ next ∷ pieces) = (length piece % 8 ≡ 0) × CutAtWords (next ∷ pieces)
+
+keeps-length : (taken : ℕ) (piece : List ℕ) (room : List ℤ) → length room ≡ 252135 → length (pieceTaken taken piece room) ≡ 252135
+unfolding pieceTaken
+keeps-length taken piece room size = go (ltb 2017080 (taken + length piece)) refl (eqb (taken % 8) 0) refl
+  where
+    go : (long : Bool) → ltb 2017080 (taken + length piece) ≡ long → (whole : Bool) → eqb (taken % 8) 0 ≡ whole → length (pieceTaken taken piece room) ≡ 252135
+    go true l whole w = rw l size
+    go false l false w = rw (l, w) size
+    go false l true w =
+        let m = length piece / 8 in
+        let fits : taken / 8 + length (words piece m) ≤ length room = omega (arith, words-length piece m, ltb-false 2017080 (taken + length piece) l, size) in
+        rw (l, w) (placed-length room (words piece m) (taken / 8) fits ∙ size)
+
+all-held : (before : List ℕ) (pieces : List (List ℕ)) (room : List ℤ) → length room ≡ 252135 → length before % 8 ≡ 0 → Held before room → CutAtWords pieces → Held (before ++ joined pieces) (allPieces (length before) pieces room)
+all-held before [] room size whole held cut = rw (append-nil before) held
+all-held before (piece ∷ []) room size whole held cut = rw (append-nil piece) (piece-is-held before piece room size whole held)
+all-held before (piece ∷ next ∷ pieces) room size whole held cut =
+    let both = length-append before piece in
+    let rest = all-held (before ++ piece) (next ∷ pieces) (pieceTaken (length before) piece room) (keeps-length (length before) piece room size) (omega (arith, both, cut .0, whole)) (piece-is-held before piece room size whole held) (cut .1) in
+    rw (append-assoc before piece (joined (next ∷ pieces)), both) at rest
+
+module _ (pieces : List (List ℕ)) (ws : List ℤ) (size : length ws ≡ 252135) (cut : CutAtWords pieces) where
+  pub pieces-build : (room : ℕ) → builtFromTaken (allPieces 0 pieces ws) (length (joined pieces)) room ≡ builtFrom (joined pieces) room
+  pieces-build room = held-is-built (joined pieces) (allPieces 0 pieces ws) (all-held [] pieces ws size refl (nothing-is-held ws) cut) room
+
+  pub pieces-blame : refusedInTaken (allPieces 0 pieces ws) (length (joined pieces)) ≡ refusedSeries (joined pieces)
+  pieces-blame = held-is-blamed (joined pieces) (allPieces 0 pieces ws) (all-held [] pieces ws size refl (nothing-is-held ws) cut)
