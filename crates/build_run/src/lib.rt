@@ -75,7 +75,7 @@ fn take_next(fd: i32, taken: usize, words: &mut [i64]) -> usize
 {
     let mut piece = io::large_buffer();
     let n = io::read_full(fd, &mut piece);
-    building::inner::take(&piece[..n], taken, words)
+    pieces::inner::take(&piece[..n], taken, words)
 }
 
 // Takes an input piece by piece until it ends, or until it is too long, and says how many bytes it has then.

@@ -1,13 +1,12 @@
 -- The input of the build program: signed 64-bit little-endian words, first Y, count of suis, then leap table, Sun and Moon as in the listing's layout. Longer than
 -- the longest series allow, not in whole words, too short, with words left over or with a negative count of a section is 13, judged first; then the file build's
 -- own refusals. Assumes nothing: these are definitions.
-use mathlib.Core.Bool.{Bool, not, cond, _&&_}
+use mathlib.Core.Bool.{Bool, not, _&&_}
 use mathlib.Core.List.{List}
-use Prim.Native.Nat.{ℕ, _+_, _/_, _%_}
+use Prim.Native.Nat.{ℕ, _/_, _%_}
 use lib.Dec.{ltb, leb, eqb}
 use lib.IntN.{ℤ, pos}
 use lib.ListN.{length, getD, take, drop}
-use Rattle.whole.specs.Lists.{placed}
 use Rattle.refusals.specs.Verdict.{Verdict, refuseWhen, _before_, _then_}
 use Rattle.words.specs.Words.{words}
 use Rattle.clock.specs.Clock.{utc8}
@@ -27,12 +26,7 @@ builtFrom bytes room =
     before refuseWhen (not (eqb (length bytes % 8) 0)) 13
     before builtFromWords (words bytes (length bytes / 8)) room
 
--- ---- an input that comes in pieces, of which only the words are kept
--- what the room for words holds once a piece is taken behind so many bytes; a piece with which the input is too long, or that begins inside a word, is not kept
-unfoldable pub pieceTaken : ℕ → List ℕ → List ℤ → List ℤ
-pieceTaken taken piece room =
-    cond (ltb 2017080 (taken + length piece)) room (cond (eqb (taken % 8) 0) (placed (taken / 8) (words piece (length piece / 8)) room) room)
-
+-- ---- an input that came in pieces, of which only the words were kept (`pieces`)
 -- whether so many bytes are not too many and of whole words, and these were all taken
 unfoldable pub allTaken : List ℤ → ℕ → Bool
 allTaken ws bytes = leb bytes 2017080 && eqb (bytes % 8) 0 && leb (bytes / 8) (length ws)

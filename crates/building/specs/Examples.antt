@@ -7,7 +7,7 @@ use lib.IntN.{ℤ, pos, negsuc}
 use lib.ListN.{replicate}
 use Rattle.whole.specs.Floor.{floorDiv}
 use Rattle.whole.specs.Below.{every}
-use Rattle.whole.specs.Evaluated.{all, sameWords}
+use Rattle.whole.specs.Evaluated.{all}
 use Rattle.refusals.specs.Search.{firstBad}
 use Rattle.refusals.specs.Evaluated.{isRefused, isRefusedAt}
 use Rattle.words.specs.Words.{words}
@@ -21,7 +21,7 @@ use Rattle.layout.specs.Layout.{sectionEnd, places}
 use Rattle.build.specs.Build.{builtBy}
 use Rattle.building.specs.declared.SeriesAnswer.{SeriesAnswer}
 use Rattle.building.specs.declared.SeriesAnswer.the-variants.{Sun, Moon, Neither}
-use Rattle.building.specs.Building.{builtFromRest, builtFromWords, builtFrom, pieceTaken, allTaken, builtFromTaken}
+use Rattle.building.specs.Building.{builtFromRest, builtFromWords, builtFrom, allTaken, builtFromTaken}
 use Rattle.building.specs.Refused.{refusedOf, refusedInRest, refusedInWords, refusedSeries, refusedInTaken}
 
 abbrev isSun : SeriesAnswer → Bool
@@ -48,7 +48,7 @@ abbrev asked : ℤ → ℤ → ℤ → List ℤ
 asked offset sunRise moonRise = pos 2000 ∷ pos 1 ∷ pos 1 ∷ pos 0 ∷ offset ∷ (one sunRise ++ one moonRise)
 
 unfoldable pub examples : List Bool
-unfolding pieceTaken allTaken builtFromTaken refusedInTaken builtFrom builtFromWords builtFromRest builtBy refusedOf refusedInRest refusedInWords refusedSeries words sectionEnd places inputsJudged leapJudged leapLawful wholePairs firstEntry nextEntry goodEntry every seriesJudged firstBad value slope sum P floorDiv
+unfolding allTaken builtFromTaken refusedInTaken builtFrom builtFromWords builtFromRest builtBy refusedOf refusedInRest refusedInWords refusedSeries words sectionEnd places inputsJudged leapJudged leapLawful wholePairs firstEntry nextEntry goodEntry every seriesJudged firstBad value slope sum P floorDiv
 examples =
     -- too few words: none, one, and two with nothing behind them; seven keep the layout, and their leap table of no entry is 1
     isRefused (builtFromWords [] 200) 13
@@ -82,13 +82,6 @@ examples =
     ∷ isMoon (refusedInTaken (asked (pos 32) (pos 552960000) (pos 4000000001)) 296)
     ∷ isNeither (refusedInTaken (asked (pos 32) (pos 138239999) (pos 4000000001)) 295)
     ∷ isNeither (refusedInTaken (asked (pos 32) (pos 138239999) (pos 4000000001)) 304)
-    -- a piece stands behind the bytes before it; a part of a word at its end is not kept, nor a piece that begins inside a word
-    ∷ sameWords (pieceTaken 8 (5 ∷ replicate 7 0 ++ 7 ∷ replicate 7 0) (pos 1 ∷ pos 2 ∷ pos 3 ∷ pos 4 ∷ [])) (pos 1 ∷ pos 5 ∷ pos 7 ∷ pos 4 ∷ [])
-    ∷ sameWords (pieceTaken 8 (5 ∷ replicate 7 0 ++ 7 ∷ replicate 6 0) (pos 1 ∷ pos 2 ∷ pos 3 ∷ pos 4 ∷ [])) (pos 1 ∷ pos 5 ∷ pos 3 ∷ pos 4 ∷ [])
-    ∷ sameWords (pieceTaken 9 (5 ∷ replicate 7 0) (pos 1 ∷ pos 2 ∷ [])) (pos 1 ∷ pos 2 ∷ [])
-    -- the last word of the longest input, and one behind it (in a room of none, so that what is kept is the word alone)
-    ∷ sameWords (pieceTaken 2017072 (5 ∷ replicate 7 0) []) (pos 5 ∷ [])
-    ∷ sameWords (pieceTaken 2017080 (5 ∷ replicate 7 0) []) []
     ∷ []
 
 pub examples-hold : T (all examples)

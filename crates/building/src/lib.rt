@@ -1,5 +1,5 @@
 // The file build from an input of bytes: first Y and count of suis, then leap table, Sun and Moon in the listing's layout. The bytes come in pieces, of which the
-// words are kept (`inner`).
+// words are kept (`pieces`).
 use almanac::WriteAnswer;
 ghost use mathlib.Core.Path.{_≡_};
 ghost use lib.ListN.{length};
@@ -8,7 +8,6 @@ ghost use Rattle.almanac.specs.Answers.{paperWritten, bytesCounted, all-bytes};
 ghost use Rattle.building.specs.Building.{allTaken, builtFromTaken};
 ghost use Rattle.building.specs.Refused.{refusedInTaken};
 
-pub mod inner;
 mod refused;
 mod sections;
 

@@ -2,22 +2,20 @@
 use mathlib.Core.Path.{_≡_, refl, sym}
 use mathlib.Core.Bool.{true, false, _&&_}
 use mathlib.Core.List.{List}
-use Prim.Native.Nat.{ℕ, _+_, _/_, _%_, _≤_, _<_}
-use borrow.Author.Tests.{lt-ltb, le-ltb, eq-eqb, ne-eqb, leb-true}
+use Prim.Native.Nat.{ℕ, _/_, _%_, _≤_, _<_}
+use borrow.Author.Tests.{lt-ltb, le-ltb, leb-true}
 use lib.Dec.{leb, eqb}
 use lib.IntN.{ℤ, pos}
 use lib.ListN.{length, getD, take, drop}
 use Rattle.whole.specs.Booleans.{both}
-use Rattle.whole.specs.Lists.{placed}
 use Rattle.refusals.specs.Verdict.{Verdict, answered, refused}
 use Rattle.refusals.specs.Lent.{writtenInto}
-use Rattle.words.specs.Words.{words}
 use Rattle.clock.specs.Clock.{utc8}
 use Rattle.layout.specs.declared.inner.Places.{Places}
 use Rattle.layout.specs.Layout.{places, inputsAt}
 use Rattle.almanac.specs.Answers.{bytesCounted, all-bytes}
 use Rattle.build.specs.Build.{bytesBuilt}
-use Rattle.building.specs.Building.{builtFromRest, builtFromWords, pieceTaken, allTaken, builtFromTaken}
+use Rattle.building.specs.Building.{builtFromRest, builtFromWords, allTaken, builtFromTaken}
 
 -- what a function answers, and what it leaves in the lent file, by what is to be written
 abbrev pub Promises : Verdict (List ℕ) → List ℕ → Verdict ℕ → List ℕ → Type 0
@@ -63,18 +61,3 @@ module _ (ws : List ℤ) (bytes room : ℕ) where
   pub taken : allTaken ws bytes ≡ true → builtFromTaken ws bytes room ≡ builtFromWords (take (bytes / 8) ws) room
   unfolding builtFromTaken
   taken e = rw e
-
--- ---- a piece: only counted, or kept
-module _ (taken : ℕ) (piece : List ℕ) (room : List ℤ) where
-  pub piece-too-long : 2017080 < taken + length piece → room ≡ pieceTaken taken piece room
-  unfolding pieceTaken
-  piece-too-long h = rw (lt-ltb 2017080 (taken + length piece) h)
-
-  module _ (short : taken + length piece ≤ 2017080) where
-    pub piece-inside-a-word : (taken % 8 ≡ 0 → ⊥) → room ≡ pieceTaken taken piece room
-    unfolding pieceTaken
-    piece-inside-a-word e = rw (le-ltb 2017080 (taken + length piece) short, ne-eqb (taken % 8) 0 e)
-
-    pub piece-kept : taken % 8 ≡ 0 → pieceTaken taken piece room ≡ placed (taken / 8) (words piece (length piece / 8)) room
-    unfolding pieceTaken
-    piece-kept e = rw (le-ltb 2017080 (taken + length piece) short, eq-eqb (taken % 8) 0 e)

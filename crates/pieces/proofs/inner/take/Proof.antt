@@ -1,4 +1,4 @@
--- `building::inner::take` meets its contract. Assumes nothing.
+-- `pieces::inner::take` meets its contract. Assumes nothing.
 use mathlib.Core.Path.{_≡_, refl, sym, ap, _∙_}
 use mathlib.Core.List.{List, _++_, append-assoc}
 use Prim.Native.Nat.{ℕ, _+_, _-_, _/_, _≤_}
@@ -9,12 +9,12 @@ use lib.Seq.{drop-append-le, drop-drop}
 use borrow.Rule.Slice.PartMut.{midOf, postOf, putMid, mid-len}
 use Rattle.whole.specs.Lists.{placed}
 use Rattle.words.specs.Words.{words, words-length}
-use Rattle.building.specs.theory.Cases.{piece-too-long, piece-inside-a-word, piece-kept}
+use Rattle.pieces.specs.theory.Cases.{too-long, inside-a-word, kept}
 use borrow.Author.Needs.{needs}
-use Rattle.building.proofs.inner.take.Statement.{statement}
-use Rattle.building.proofs.inner.take.Tie as tie
-use Rattle.building.proofs.inner.take.Reads as reads
-use Rattle.building.proofs.inner.take.Lts as lts
+use Rattle.pieces.proofs.inner.take.Statement.{statement}
+use Rattle.pieces.proofs.inner.take.Tie as tie
+use Rattle.pieces.proofs.inner.take.Reads as reads
+use Rattle.pieces.proofs.inner.take.Lts as lts
 use Rattle.words.proofs.inner.read_words.Reads as read-words-reads
 
 -- a part of a list whose front is replaced, put back, is that front placed in the list
@@ -33,11 +33,14 @@ put-back ws part a k m size fits =
 add-bytes : tie.Need-add-bytes
 add-bytes c = search needs
 
+mul-if1 : tie.Need-mul-if1
+mul-if1 c = search needs
+
 returns : tie.Need-returns
-returns c = let a = c .before .before .args in (refl, piece-too-long (a .taken) (a .piece .now) (a .words .now) (c .if1 .taken))
+returns c = let a = c .before .before .args in (refl, too-long (a .taken) (a .piece .now) (a .words .now) (c .if1 .taken))
 
 returns-2 : tie.Need-returns-2
-returns-2 c = let a = c .before .before .before .args in (refl, piece-inside-a-word (a .taken) (a .piece .now) (a .words .now) (c .before .if1 .left) (c .if2 .taken))
+returns-2 c = let a = c .before .before .before .args in (refl, inside-a-word (a .taken) (a .piece .now) (a .words .now) (c .before .if1 .left) (c .if2 .taken))
 
 mul-read-words : tie.Need-mul-read-words
 mul-read-words c = search needs
@@ -69,7 +72,7 @@ returns-3 c =
       refl,
       ap (putMid from (length ws - from) ws) (c .before .read-words .ensures)
           ∙ put-back ws (words (a .piece .now) m) from (length ws - from) m (words-length (a .piece .now) m) fits
-          ∙ sym (piece-kept (a .taken) (a .piece .now) ws short (c .before .before .before .if2 .left)),
+          ∙ sym (kept (a .taken) (a .piece .now) ws short (c .before .before .before .if2 .left)),
     )
 
 pub take-spec : {M : Type 1} → statement M
@@ -77,6 +80,7 @@ take-spec =
     tie.close
     (tie.spec
     add-bytes
+    mul-if1
     returns
     returns-2
     mul-read-words

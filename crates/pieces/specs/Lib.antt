@@ -1,0 +1,4 @@
+pub mod Pieces
+pub mod Theorems
+pub mod theory
+pub mod Examples
