@@ -19,17 +19,17 @@ builtFromRest ws first count room = places ws then (λ p. bytesBuilt (inputsAt w
 unfoldable pub builtFromWords : List ℤ → ℕ → Verdict (List ℕ)
 builtFromWords ws room = refuseWhen (ltb (length ws) 2) 13 before builtFromRest (drop 2 ws) (getD ws 0 (pos 0)) (getD ws 1 (pos 0)) room
 
--- 252,135 words: first Y, count, 64 leap entries, 2,000 segments of the Sun and 16,000 of the Moon
+-- how many bytes an input may have: whole words, and at most 252,135 of them: first Y, count, 64 leap entries, 2,000 segments of the Sun and 16,000 of the Moon
+unfoldable pub lengthKept : ℕ → Bool
+lengthKept bytes = leb bytes 2017080 && eqb (bytes % 8) 0
+
 unfoldable pub builtFrom : List ℕ → ℕ → Verdict (List ℕ)
-builtFrom bytes room =
-    refuseWhen (ltb 2017080 (length bytes)) 13
-    before refuseWhen (not (eqb (length bytes % 8) 0)) 13
-    before builtFromWords (words bytes (length bytes / 8)) room
+builtFrom bytes room = refuseWhen (not (lengthKept (length bytes))) 13 before builtFromWords (words bytes (length bytes / 8)) room
 
 -- ---- an input that came in pieces, of which only the words were kept (`pieces`)
--- whether so many bytes are not too many and of whole words, and these were all taken
+-- whether an input may have so many bytes, and their words were all taken
 unfoldable pub allTaken : List ℤ → ℕ → Bool
-allTaken ws bytes = leb bytes 2017080 && eqb (bytes % 8) 0 && leb (bytes / 8) (length ws)
+allTaken ws bytes = lengthKept bytes && leb (bytes / 8) (length ws)
 
 -- what is built once so many bytes were taken: `Pieces` says that it is what is built from these bytes
 unfoldable pub builtFromTaken : List ℤ → ℕ → ℕ → Verdict (List ℕ)

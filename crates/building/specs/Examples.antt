@@ -1,6 +1,6 @@
 -- The input of the build program on both sides of its bounds, and whose series is refused: computed facts, checked at once. (What is built from accepted series is
 -- stepped second by second, and run by programs.) Assumes nothing.
-use mathlib.Core.Bool.{Bool, true, false}
+use mathlib.Core.Bool.{Bool, true, false, not}
 use mathlib.Core.List.{List, [], _∷_, _++_}
 use lib.Dec.{T}
 use lib.IntN.{ℤ, pos, negsuc}
@@ -21,7 +21,7 @@ use Rattle.layout.specs.Layout.{sectionEnd, places}
 use Rattle.build.specs.Build.{builtBy}
 use Rattle.building.specs.declared.SeriesAnswer.{SeriesAnswer}
 use Rattle.building.specs.declared.SeriesAnswer.the-variants.{Sun, Moon, Neither}
-use Rattle.building.specs.Building.{builtFromRest, builtFromWords, builtFrom, allTaken, builtFromTaken}
+use Rattle.building.specs.Building.{builtFromRest, builtFromWords, lengthKept, builtFrom, allTaken, builtFromTaken}
 use Rattle.building.specs.Refused.{refusedOf, refusedInRest, refusedInWords, refusedSeries, refusedInTaken}
 
 abbrev isSun : SeriesAnswer → Bool
@@ -48,7 +48,7 @@ abbrev asked : ℤ → ℤ → ℤ → List ℤ
 asked offset sunRise moonRise = pos 2000 ∷ pos 1 ∷ pos 1 ∷ pos 0 ∷ offset ∷ (one sunRise ++ one moonRise)
 
 unfoldable pub examples : List Bool
-unfolding allTaken builtFromTaken refusedInTaken builtFrom builtFromWords builtFromRest builtBy refusedOf refusedInRest refusedInWords refusedSeries words sectionEnd places inputsJudged leapJudged leapLawful wholePairs firstEntry nextEntry goodEntry every seriesJudged firstBad value slope sum P floorDiv
+unfolding lengthKept allTaken builtFromTaken refusedInTaken builtFrom builtFromWords builtFromRest builtBy refusedOf refusedInRest refusedInWords refusedSeries words sectionEnd places inputsJudged leapJudged leapLawful wholePairs firstEntry nextEntry goodEntry every seriesJudged firstBad value slope sum P floorDiv
 examples =
     -- too few words: none, one, and two with nothing behind them; seven keep the layout, and their leap table of no entry is 1
     isRefused (builtFromWords [] 200) 13
@@ -57,6 +57,10 @@ examples =
     ∷ isRefused (builtFromWords (pos 2000 ∷ pos 1 ∷ replicate 4 (pos 0)) 200) 13
     ∷ isRefused (builtFromWords (pos 2000 ∷ pos 1 ∷ replicate 5 (pos 0)) 200) 1
     ∷ isRefused (builtFromWords (pos 2000 ∷ pos 1 ∷ replicate 6 (pos 0)) 200) 13
+    -- the longest input, one byte less, one word more
+    ∷ lengthKept 2017080
+    ∷ not (lengthKept 2017079)
+    ∷ not (lengthKept 2017088)
     -- a part of a word, before and behind; a negative count of a section
     ∷ isRefused (builtFrom (replicate 55 0) 200) 13
     ∷ isRefused (builtFrom (replicate 56 0) 200) 1

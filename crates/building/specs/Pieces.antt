@@ -3,43 +3,42 @@
 use mathlib.Core.Path.{_≡_, refl, _∙_}
 use mathlib.Core.Bool.{Bool, true, false}
 use mathlib.Core.List.{List}
-use Prim.Native.Nat.{ℕ, _/_, _%_, _≤_}
+use Prim.Native.Nat.{ℕ, _/_}
 use native.Mathlib.Omega.{arith}
-use borrow.Author.Tests.{le-leb, lt-leb, ltb-true, ltb-false}
-use lib.Dec.{ltb, eqb}
+use borrow.Author.Tests.{le-leb}
+use lib.Dec.{leb}
 use lib.IntN.{ℤ}
 use lib.ListN.{length, take}
 use Rattle.words.specs.Words.{words}
 use Rattle.pieces.specs.Pieces.{allPieces, joined, CutAtWords, Held}
 use Rattle.pieces.specs.Theorems.{pieces-are-held, pieces-keep-length}
-use Rattle.building.specs.Building.{allTaken, builtFrom, builtFromTaken}
+use Rattle.building.specs.Building.{lengthKept, allTaken, builtFrom, builtFromTaken}
+use Rattle.building.specs.theory.Cases.{not-too-long}
 use Rattle.building.specs.Refused.{refusedInTaken, refusedSeries}
 
 -- ---- of an input that the room holds
-module _ (input : List ℕ) (ws : List ℤ) (size : length ws ≡ 252135) (holds : Held input ws) where
-  enough : length input ≤ 2017080 → length input / 8 ≤ length ws
-  enough short = omega (arith, size, short)
-
-  held : length input ≤ 2017080 → take (length input / 8) ws ≡ words input (length input / 8)
-  held short = holds (omega (arith, size, short))
+module _ (input : List ℕ) (ws : List ℤ) (size : length ws ≡ 252135) (held : Held input ws) where
+  -- one of the length that is kept was all taken, and its words are the input's
+  all-there : lengthKept (length input) ≡ true → (leb (length input / 8) (length ws) ≡ true) × (take (length input / 8) ws ≡ words input (length input / 8))
+  all-there e =
+      let short = not-too-long (length input) e in
+      (le-leb (length input / 8) (length ws) (omega (arith, size, short)), held (omega (arith, size, short)))
 
   held-is-built : (room : ℕ) → builtFromTaken ws (length input) room ≡ builtFrom input room
   unfolding builtFromTaken allTaken builtFrom
-  held-is-built room = go (ltb 2017080 (length input)) refl (eqb (length input % 8) 0) refl
+  held-is-built room = go (lengthKept (length input)) refl
     where
-      go : (long : Bool) → ltb 2017080 (length input) ≡ long → (whole : Bool) → eqb (length input % 8) 0 ≡ whole → builtFromTaken ws (length input) room ≡ builtFrom input room
-      go true l whole w = rw (l, lt-leb (length input) 2017080 (ltb-true 2017080 (length input) l))
-      go false l false w = rw (l, w, le-leb (length input) 2017080 (ltb-false 2017080 (length input) l))
-      go false l true w = let short = ltb-false 2017080 (length input) l in rw (l, w, le-leb (length input) 2017080 short, le-leb (length input / 8) (length ws) (enough short), held short)
+      go : (kept : Bool) → lengthKept (length input) ≡ kept → builtFromTaken ws (length input) room ≡ builtFrom input room
+      go true e = let there = all-there e in rw (e, there .0, there .1)
+      go false e = rw e
 
   held-is-blamed : refusedInTaken ws (length input) ≡ refusedSeries input
   unfolding refusedInTaken allTaken refusedSeries
-  held-is-blamed = go (ltb 2017080 (length input)) refl (eqb (length input % 8) 0) refl
+  held-is-blamed = go (lengthKept (length input)) refl
     where
-      go : (long : Bool) → ltb 2017080 (length input) ≡ long → (whole : Bool) → eqb (length input % 8) 0 ≡ whole → refusedInTaken ws (length input) ≡ refusedSeries input
-      go true l whole w = rw (l, lt-leb (length input) 2017080 (ltb-true 2017080 (length input) l))
-      go false l false w = rw (l, w, le-leb (length input) 2017080 (ltb-false 2017080 (length input) l))
-      go false l true w = let short = ltb-false 2017080 (length input) l in rw (l, w, le-leb (length input) 2017080 short, le-leb (length input / 8) (length ws) (enough short), held short)
+      go : (kept : Bool) → lengthKept (length input) ≡ kept → refusedInTaken ws (length input) ≡ refusedSeries input
+      go true e = let there = all-there e in rw (e, there .0, there .1)
+      go false e = rw e
 
 -- ---- of an input that was taken in pieces
 module _ (pieces : List (List ℕ)) (cut : CutAtWords pieces) (ws : List ℤ) (size : length ws ≡ 252135) where

@@ -3,8 +3,8 @@
 -- neither. Assumes nothing: these are definitions.
 use mathlib.Core.Bool.{not}
 use mathlib.Core.List.{List}
-use Prim.Native.Nat.{ℕ, _/_, _%_}
-use lib.Dec.{ltb, eqb}
+use Prim.Native.Nat.{ℕ, _/_}
+use lib.Dec.{ltb}
 use lib.IntN.{ℤ}
 use lib.ListN.{length, take, drop}
 use Rattle.refusals.specs.Verdict.{Verdict, answered, refused, refuseWhen}
@@ -15,7 +15,7 @@ use Rattle.inputs.specs.Inputs.{Inputs, sun, moon}
 use Rattle.layout.specs.Layout.{places, inputsAt}
 use Rattle.building.specs.declared.SeriesAnswer.{SeriesAnswer}
 use Rattle.building.specs.declared.SeriesAnswer.the-variants.{Sun, Moon, Neither}
-use Rattle.building.specs.Building.{allTaken}
+use Rattle.building.specs.Building.{lengthKept, allTaken}
 
 -- neither, unless the first is answered
 infixr 5 _leads-to_
@@ -38,10 +38,7 @@ unfoldable pub refusedInWords : List ℤ → SeriesAnswer
 refusedInWords ws = refuseWhen (ltb (length ws) 2) 13 leads-to (λ _. refusedInRest (drop 2 ws))
 
 unfoldable pub refusedSeries : List ℕ → SeriesAnswer
-refusedSeries bytes =
-    refuseWhen (ltb 2017080 (length bytes)) 13 leads-to (λ _.
-    refuseWhen (not (eqb (length bytes % 8) 0)) 13 leads-to (λ _.
-    refusedInWords (words bytes (length bytes / 8))))
+refusedSeries bytes = refuseWhen (not (lengthKept (length bytes))) 13 leads-to (λ _. refusedInWords (words bytes (length bytes / 8)))
 
 -- the same once so many bytes were taken in pieces
 unfoldable pub refusedInTaken : List ℤ → ℕ → SeriesAnswer

@@ -3,9 +3,9 @@
 use mathlib.Core.Path.{_≡_, refl, sym}
 use mathlib.Core.Bool.{not, _||_}
 use mathlib.Core.List.{List}
-use Prim.Native.Nat.{ℕ, _/_, _%_}
+use Prim.Native.Nat.{ℕ, _/_}
 use native.Mathlib.Omega.{arith}
-use lib.Dec.{ltb, eqb}
+use lib.Dec.{ltb}
 use lib.IntN.{ℤ}
 use lib.ListN.{length, drop}
 use Rattle.refusals.specs.Verdict.{Verdict, answered, refused, accepted, refuseWhen, _before_}
@@ -20,7 +20,7 @@ use Rattle.layout.specs.Layout.{places, inputsAt}
 use Rattle.build.specs.Build.{builtBy}
 use Rattle.building.specs.declared.SeriesAnswer.{SeriesAnswer}
 use Rattle.building.specs.declared.SeriesAnswer.the-variants.{Sun, Moon, Neither}
-use Rattle.building.specs.Building.{builtFromRest, builtFromWords, builtFrom}
+use Rattle.building.specs.Building.{builtFromRest, builtFromWords, lengthKept, builtFrom}
 use Rattle.building.specs.Refused.{_leads-to_, blamed, refusedOf, refusedInRest, refusedInWords, refusedSeries}
 
 -- ---- three answers
@@ -90,11 +90,10 @@ module _ (bytes : List ℕ) (room : ℕ) where
   named : (x : SeriesAnswer) → (Neither ≡ x → ⊥) → refusedSeries bytes ≡ x → (p : Places) × (places (restOf bytes) ≡ answered p) × (refusedOf (inputsAt (restOf bytes) p) ≡ x) × ((number segment : ℕ) → inputsJudged (inputsAt (restOf bytes) p) ≡ refused number segment → builtFrom bytes room ≡ refused number segment)
   unfolding refusedSeries refusedInWords refusedInRest builtFrom builtFromWords builtFromRest builtBy
   named x some e =
-      let short = leads-from (refuseWhen (ltb 2017080 (length bytes)) 13) _ x some e in
-      let whole = leads-from (refuseWhen (not (eqb (length bytes % 8) 0)) 13) _ x some (short .2) in
-      let enough = leads-from (refuseWhen (ltb (length (words bytes (length bytes / 8))) 2) 13) _ x some (whole .2) in
+      let kept = leads-from (refuseWhen (not (lengthKept (length bytes))) 13) _ x some e in
+      let enough = leads-from (refuseWhen (ltb (length (words bytes (length bytes / 8))) 2) 13) _ x some (kept .2) in
       let found = leads-from (places (restOf bytes)) _ x some (enough .2) in
-      (found .0, found .1, found .2, λ number segment h. rw (short .1, whole .1, enough .1, found .1, h))
+      (found .0, found .1, found .2, λ number segment h. rw (kept .1, enough .1, found .1, h))
 
   pub sun-is-refused : refusedSeries bytes ≡ Sun → RefusedBy sun bytes room
   sun-is-refused e =

@@ -18,7 +18,7 @@ pub enum SeriesAnswer {
     Neither,
 }
 
-// Whether so many bytes are not too many and of whole words, and these were all taken.
+// Whether an input may have so many bytes, and their words were all taken.
 fn all_taken(words: &[i64], bytes: usize) -> bool
     ensures { λ r. ⌜ r ≡ allTaken (now (words .entry)) bytes ⌝ }
 {

@@ -2,22 +2,22 @@
 use mathlib.Core.Path.{_≡_, sym}
 use Prim.Native.Nat.{_%_}
 use borrow.Author.Tests.{le-leb, lt-leb, eq-eqb, ne-eqb}
-use Rattle.building.specs.Building.{allTaken}
+use Rattle.building.specs.Building.{lengthKept, allTaken}
 use Rattle.building.proofs.all_taken.Statement.{statement}
 use Rattle.building.proofs.all_taken.Tie as tie
 use Rattle.building.proofs.all_taken.Reads as reads
 use Rattle.building.proofs.all_taken.Lts as lts
 
 returns : tie.Need-returns
-unfolding allTaken
+unfolding allTaken lengthKept
 returns c = rw (lt-leb (c .before .args .bytes) 2017080 (c .if1 .taken))
 
 returns-2 : tie.Need-returns-2
-unfolding allTaken
+unfolding allTaken lengthKept
 returns-2 c = let bytes = c .before .before .args .bytes in rw (le-leb bytes 2017080 (c .before .if1 .left), ne-eqb (bytes % 8) 0 (c .if2 .taken))
 
 returns-3 : tie.Need-returns-3
-unfolding allTaken
+unfolding allTaken lengthKept
 returns-3 c = let bytes = c .before .before .args .bytes in rw (le-leb bytes 2017080 (c .before .if1 .left), eq-eqb (bytes % 8) 0 (c .if2 .left))
 
 pub all-taken-spec : {M : Type 1} → statement M

@@ -1,6 +1,6 @@
 -- The cases of the definition, and the two promises that each of them keeps. Assumes nothing.
 use mathlib.Core.Path.{_≡_, refl, sym}
-use mathlib.Core.Bool.{true, false, _&&_}
+use mathlib.Core.Bool.{true, false}
 use mathlib.Core.List.{List}
 use Prim.Native.Nat.{ℕ, _/_, _%_, _≤_, _<_}
 use borrow.Author.Tests.{lt-ltb, le-ltb, leb-true}
@@ -15,7 +15,7 @@ use Rattle.layout.specs.declared.inner.Places.{Places}
 use Rattle.layout.specs.Layout.{places, inputsAt}
 use Rattle.almanac.specs.Answers.{bytesCounted, all-bytes}
 use Rattle.build.specs.Build.{bytesBuilt}
-use Rattle.building.specs.Building.{builtFromRest, builtFromWords, allTaken, builtFromTaken}
+use Rattle.building.specs.Building.{builtFromRest, builtFromWords, lengthKept, allTaken, builtFromTaken}
 
 -- what a function answers, and what it leaves in the lent file, by what is to be written
 abbrev pub Promises : Verdict (List ℕ) → List ℕ → Verdict ℕ → List ℕ → Type 0
@@ -46,12 +46,17 @@ module _ (ws : List ℤ) (room : ℕ) where
   unfolding builtFromWords
   enough h = rw (le-ltb (length ws) 2 h)
 
--- bytes whose words were all taken are not too many, and the room has their words
+-- an input that keeps its length is not too long
+pub not-too-long : (bytes : ℕ) → lengthKept bytes ≡ true → bytes ≤ 2017080
+unfolding lengthKept
+not-too-long bytes e = leb-true bytes 2017080 (both (leb bytes 2017080) (eqb (bytes % 8) 0) e .0)
+
+-- nor is one whose words were all taken, and the room has its words
 pub bounded : (ws : List ℤ) (bytes : ℕ) → allTaken ws bytes ≡ true → (bytes ≤ 2017080) × (bytes / 8 ≤ length ws)
 unfolding allTaken
 bounded ws bytes e =
-    let all = both (leb bytes 2017080 && eqb (bytes % 8) 0) (leb (bytes / 8) (length ws)) e in
-    (leb-true bytes 2017080 (both (leb bytes 2017080) (eqb (bytes % 8) 0) (all .0) .0), leb-true (bytes / 8) (length ws) (all .1))
+    let all = both (lengthKept bytes) (leb (bytes / 8) (length ws)) e in
+    (not-too-long bytes (all .0), leb-true (bytes / 8) (length ws) (all .1))
 
 module _ (ws : List ℤ) (bytes room : ℕ) where
   pub not-taken : allTaken ws bytes ≡ false → builtFromTaken ws bytes room ≡ refused 13 0
