@@ -4,8 +4,9 @@ use almanac::WriteAnswer;
 use building::SeriesAnswer;
 use refusals::Refusal;
 ghost use mathlib.Core.Path.{_≡_};
-ghost use Prim.Native.Nat.{_+_, _≤_};
+ghost use Prim.Native.Nat.{_≤_};
 ghost use lib.ListN.{length};
+ghost use Rattle.pieces.specs.Pieces.{TakenNext, Taken};
 
 // Room for all the words of the longest input: 64 leap entries, 2,000 segments of the Sun, 16,000 of the Moon.
 fn word_room() -> [i64; 252135]
@@ -70,18 +71,18 @@ fn print_built(words: &[i64], bytes: usize) {
 fn take_next(fd: i32, taken: usize, words: &mut [i64]) -> usize
     requires { ⌜ taken ≤ 2017080 ⌝ }
     requires { ⌜ length (now words) ≡ 252135 ⌝ }
-    ensures { λ r. ⌜ r ≤ taken + 65536 ⌝ }
-    ensures { λ _. ⌜ length (now (words .exit)) ≡ 252135 ⌝ }
+    ensures { λ r. ⌜ TakenNext taken (now (words .entry)) (now (words .exit)) r ⌝ }
 {
     let mut piece = io::large_buffer();
     let n = io::read_full(fd, &mut piece);
     pieces::inner::take(&piece[..n], taken, words)
 }
 
-// Takes an input piece by piece until it ends, or until it is too long, and says how many bytes it has then.
+// Takes an input piece by piece until it ends, or until it is too long, and says how many bytes it has then. What was read no contract can say; that it was taken
+// one piece after another, each but the last of whole words, this one does.
 fn take_all(fd: i32, words: &mut [i64]) -> usize
     requires { ⌜ length (now words) ≡ 252135 ⌝ }
-    ensures { λ _. ⌜ length (now (words .exit)) ≡ 252135 ⌝ }
+    ensures { λ r. ⌜ Taken (now (words .entry)) (now (words .exit)) r ⌝ }
 {
     let mut taken = 0;
     while taken <= 2017080 {

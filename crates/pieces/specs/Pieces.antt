@@ -33,3 +33,29 @@ CutAtWords (piece ∷ next ∷ pieces) = (length piece % 8 ≡ 0) × CutAtWords 
 -- a room holds an input: its words stand in front, unless it is longer than the room
 abbrev pub Held : List ℕ → List ℤ → Type 0
 Held input room = length input ≤ 8 * length room → take (length input / 8) room ≡ words input (length input / 8)
+
+-- ---- for a program that reads, which cannot say what it read: that there are pieces, and what they left in the room
+abbrev pub AllWhole : List (List ℕ) → Type 0
+AllWhole [] = Unit {0}
+AllWhole (piece ∷ pieces) = (length piece % 8 ≡ 0) × AllWhole pieces
+
+-- one piece, of 65,536 bytes at most, was taken behind so many bytes
+pub record TakenNext (taken : ℕ) (room now : List ℤ) (bytes : ℕ) : Type 0 where
+  pub piece : List ℕ
+  pub short : length piece ≤ 65536
+  pub is-room : now ≡ pieceTaken taken piece room
+  pub is-bytes : bytes ≡ taken + length piece
+
+-- pieces of whole words were taken, so many bytes in all
+pub record TakenWhole (room now : List ℤ) (bytes : ℕ) : Type 0 where
+  pub pieces : List (List ℕ)
+  pub whole : AllWhole pieces
+  pub is-room : now ≡ allPieces 0 pieces room
+  pub is-bytes : bytes ≡ length (joined pieces)
+
+-- the pieces of an input that is cut at words were taken, so many bytes in all
+pub record Taken (room now : List ℤ) (bytes : ℕ) : Type 0 where
+  pub pieces : List (List ℕ)
+  pub cut : CutAtWords pieces
+  pub is-room : now ≡ allPieces 0 pieces room
+  pub is-bytes : bytes ≡ length (joined pieces)

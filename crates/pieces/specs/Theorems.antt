@@ -11,7 +11,7 @@ use lib.ListN.{length, getD, take, length-append, List·getD-append}
 use lib.Seq.{getD-append-add}
 use Rattle.whole.specs.Lists.{placed, placed-length, take-placed}
 use Rattle.words.specs.Words.{word8, words, words-length}
-use Rattle.pieces.specs.Pieces.{pieceTaken, allPieces, joined, CutAtWords, Held}
+use Rattle.pieces.specs.Pieces.{pieceTaken, allPieces, joined, CutAtWords, Held, AllWhole, TakenNext, TakenWhole, Taken}
 
 -- ---- the words of two pieces, one behind the other
 module _ (a b : List ℕ) where
@@ -104,3 +104,59 @@ pieces-are-held pieces room cut = all-held [] pieces room refl (λ _. refl) cut
 pub pieces-keep-length : (taken : ℕ) (pieces : List (List ℕ)) (room : List ℤ) → length (allPieces taken pieces room) ≡ length room
 pieces-keep-length taken [] room = refl
 pieces-keep-length taken (piece ∷ pieces) room = pieces-keep-length (taken + length piece) pieces (pieceTaken taken piece room) ∙ keeps-length taken piece room
+
+-- ---- taking one piece more
+joined-one-more : (pieces : List (List ℕ)) (piece : List ℕ) → joined (pieces ++ (piece ∷ [])) ≡ joined pieces ++ piece
+joined-one-more [] piece = append-nil piece
+joined-one-more (first ∷ pieces) piece = ap (λ (l : List ℕ). first ++ l) (joined-one-more pieces piece) ∙ sym (append-assoc first (joined pieces) piece)
+
+all-one-more : (taken : ℕ) (pieces : List (List ℕ)) (piece : List ℕ) (room : List ℤ) → allPieces taken (pieces ++ (piece ∷ [])) room ≡ pieceTaken (taken + length (joined pieces)) piece (allPieces taken pieces room)
+all-one-more taken [] piece room = let none : taken ≡ taken + 0 = omega arith in ap (λ (n : ℕ). pieceTaken n piece room) none
+all-one-more taken (first ∷ pieces) piece room =
+    let both : taken + length first + length (joined pieces) ≡ taken + length (first ++ joined pieces) = omega (arith, length-append first (joined pieces)) in
+    all-one-more (taken + length first) pieces piece (pieceTaken taken first room)
+    ∙ ap (λ (n : ℕ). pieceTaken n piece (allPieces (taken + length first) pieces (pieceTaken taken first room))) both
+
+whole-one-more : (pieces : List (List ℕ)) (piece : List ℕ) → AllWhole pieces → length piece % 8 ≡ 0 → AllWhole (pieces ++ (piece ∷ []))
+whole-one-more [] piece whole e = (e, tt)
+whole-one-more (first ∷ pieces) piece whole e = (whole .0, whole-one-more pieces piece (whole .1) e)
+
+cut-one-more : (pieces : List (List ℕ)) (piece : List ℕ) → AllWhole pieces → CutAtWords (pieces ++ (piece ∷ []))
+cut-one-more [] piece whole = tt
+cut-one-more (first ∷ []) piece whole = (whole .0, tt)
+cut-one-more (first ∷ next ∷ pieces) piece whole = (whole .0, cut-one-more (next ∷ pieces) piece (whole .1))
+
+cut-whole : (pieces : List (List ℕ)) → AllWhole pieces → CutAtWords pieces
+cut-whole [] whole = tt
+cut-whole (piece ∷ []) whole = tt
+cut-whole (piece ∷ next ∷ pieces) whole = (whole .0, cut-whole (next ∷ pieces) (whole .1))
+
+module _ (room : List ℤ) where
+  pub nothing-taken : TakenWhole room room 0
+  nothing-taken = record { pieces = []; whole = tt; is-room = refl; is-bytes = refl }
+
+  module _ {now : List ℤ} {bytes : ℕ} (before : TakenWhole room now bytes) where
+    -- as it is, where nothing follows
+    pub taken-so-far : Taken room now bytes
+    taken-so-far = record { pieces = before .pieces; cut = cut-whole (before .pieces) (before .whole); is-room = before .is-room; is-bytes = before .is-bytes }
+
+    module _ {last : List ℤ} {total : ℕ} (next : TakenNext bytes now last total) where
+      room-one-more : last ≡ allPieces 0 (before .pieces ++ (next .piece ∷ [])) room
+      room-one-more =
+          let from-0 : bytes ≡ 0 + length (joined (before .pieces)) = omega (arith, before .is-bytes) in
+          next .is-room
+          ∙ ap₂ (λ (n : ℕ) (l : List ℤ). pieceTaken n (next .piece) l) from-0 (before .is-room)
+          ∙ sym (all-one-more 0 (before .pieces) (next .piece) room)
+
+      bytes-one-more : total ≡ length (joined (before .pieces ++ (next .piece ∷ [])))
+      bytes-one-more =
+          omega (arith, next .is-bytes, before .is-bytes, ap length (joined-one-more (before .pieces) (next .piece)), length-append (joined (before .pieces)) (next .piece))
+
+      pub last-taken : Taken room last total
+      last-taken = record { pieces = before .pieces ++ (next .piece ∷ []); cut = cut-one-more (before .pieces) (next .piece) (before .whole); is-room = room-one-more; is-bytes = bytes-one-more }
+
+      pub whole-taken : length (next .piece) % 8 ≡ 0 → TakenWhole room last total
+      whole-taken e = record { pieces = before .pieces ++ (next .piece ∷ []); whole = whole-one-more (before .pieces) (next .piece) (before .whole) e; is-room = room-one-more; is-bytes = bytes-one-more }
+
+pub next-keeps-length : {taken bytes : ℕ} {room now : List ℤ} → TakenNext taken room now bytes → length now ≡ length room
+next-keeps-length {taken = taken} {room = room} next = ap length (next .is-room) ∙ keeps-length taken (next .piece) room
