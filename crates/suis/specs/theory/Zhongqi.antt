@@ -20,7 +20,7 @@ use Rattle.turns.specs.Listed.{turnIndexOf, turnDay, turnsOf, turn-by-last}
 use Rattle.sui.specs.theory.Found.{zhongqiFrom}
 use Rattle.sui.specs.theory.Solstices.{one-circle-on}
 use Rattle.suis.specs.Ahead.{Ahead, zhongqiOf}
-use Rattle.suis.specs.theory.Lookups.{day-is}
+use Rattle.suis.specs.theory.Lookups.{day-is, Fewer}
 
 -- word i of a part, put behind those before it
 pub word-put : (l part : List ℤ) (at i : ℕ) (d : ℤ) {now : List ℤ} → i < length part → at + length part ≤ length l → now ≡ placed at (take i part) l → set now (at + i) (getD part i d) ≡ placed at (take (i + 1) part) l
@@ -101,3 +101,15 @@ module _ {leap : List ℤ} {start : ℤ} {coefs : List ℤ} {zone : ℤ} {place 
 
   pub last-listed : (index +ℤ pos 24) ≤ℤ lastReached s
   last-listed = rw (one-circle-on start coefs (place + j)) at (turn-by-last s (suc (place + j)) both-turns)
+
+-- ---- so many solstices were found, and the zhongqi of as many suis as they enclose, up to n: every sui whose solstices are both listed is among them
+module _ (leap : List ℤ) (s : Series) (zone : ℤ) (place : ℕ) {n found suis : ℕ} {out : List ℤ} (out₀ : List ℤ) (solstices : Fewer (turnsOf s) place (n + 2) found) (enclosed : Fewer found 1 n suis) (filled : out ≡ placed 0 (zhongqiOf leap s zone place suis) out₀) where
+  sui-enclosed : (j : ℕ) → j < n → suc (place + j) < turnsOf s → j < suis
+  sui-enclosed j h listed = go (decLt suis n)
+    where
+      go : Dec (suis < n) → j < suis
+      go (yes short) = let all = enclosed .or-all short in omega (arith, solstices .or-all (omega arith))
+      go (no long) = omega arith
+
+  pub zhongqi-made : (j : ℕ) → j < n → suc (place + j) < turnsOf s → take 13 (drop (13 * j) out) ≡ zhongqiFrom leap s zone (turnIndexOf s (place + j))
+  zhongqi-made j h listed = ap (λ (l : List ℤ). take 13 (drop (13 * j) l)) filled ∙ zhongqi-of-sui leap s zone place suis j (drop (0 + length (zhongqiOf leap s zone place suis)) out₀) (sui-enclosed j h listed)
