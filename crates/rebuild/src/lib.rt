@@ -1,6 +1,9 @@
 // The rebuild: the suis of an old almanac file from corrected inputs, and the years of those that the correction leaves as they were (document 02, order 1).
 use refusals::Refusal;
 
+mod alike;
+mod days;
+
 // How many bytes the new file has, and how many years were listed.
 pub struct Rebuilt {
     pub bytes: usize,

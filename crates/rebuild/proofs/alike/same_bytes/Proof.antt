@@ -1,0 +1,70 @@
+-- `rebuild::alike::same_bytes` meets its contract. The loop's invariant: the first i are the same. Assumes nothing.
+use mathlib.Core.Path.{_≡_, refl, sym, ap, _∙_}
+use Prim.Native.Nat.{_-_, _≤_}
+use native.Mathlib.Omega.{arith}
+use borrow.Author.Needs.{needs}
+use lib.ListN.{length, getD, take}
+use Rattle.rebuild.specs.theory.Alike.{bytes-alike, bytes-unlike, front-more, front-all}
+use Rattle.rebuild.proofs.alike.same_bytes.Statement.{statement}
+use Rattle.rebuild.proofs.alike.same_bytes.Tie as tie
+use Rattle.rebuild.proofs.alike.same_bytes.Reads as reads
+use Rattle.rebuild.proofs.alike.same_bytes.Lts as lts
+
+abbrev Inv-loop : tie.InvT-loop
+Inv-loop a b n i₀ i = (n ≡ length a) × ((n ≡ length b) × ((i ≤ n) × (take i a ≡ take i b)))
+
+abbrev μ-loop : tie.MeasureT-loop
+μ-loop a b n i₀ i = n - i
+
+returns : tie.Need-returns Inv-loop μ-loop
+returns c = bytes-unlike (λ e. c .if1 .taken (ap length (sym e)))
+
+loop-holds : tie.Need-loop-holds Inv-loop μ-loop
+loop-holds c = (refl, (sym (c .if1 .left), (omega arith, refl)))
+
+shared-slice-read-if2 : tie.Need-shared-slice-read-if2 Inv-loop μ-loop
+shared-slice-read-if2 c = omega (arith, c .before .before .loop .inv)
+
+shared-slice-read-if2-2 : tie.Need-shared-slice-read-if2-2 Inv-loop μ-loop
+shared-slice-read-if2-2 c = omega (arith, c .before .before .before .loop .inv)
+
+returns-2 : tie.Need-returns-2 Inv-loop μ-loop
+returns-2 c =
+    let loop = c .before .before .before .before in
+    let a = loop .before .before .args .a .now in
+    let b = loop .before .before .args .b .now in
+    let i = loop .loop .i in
+    bytes-unlike (λ e. (c .if2 .taken) (ap (λ l. getD l i 0) e))
+
+add-i : tie.Need-add-i Inv-loop μ-loop
+add-i c = search needs
+
+loop-less : tie.Need-loop-less Inv-loop μ-loop
+loop-less c = omega arith
+
+loop-again : tie.Need-loop-again Inv-loop μ-loop
+loop-again c =
+    let loop = c .before .before .before .before in
+    let a = loop .before .before .args .a .now in
+    let b = loop .before .before .args .b .now in
+    let i = loop .loop .i in
+    (refl, (loop .loop .inv .1 .0, (omega arith, front-more a b i 0 (omega (arith, loop .loop .inv)) (omega (arith, loop .loop .inv)) (loop .loop .inv .1 .1 .1) (c .if2 .left))))
+
+returns-3 : tie.Need-returns-3 Inv-loop μ-loop
+returns-3 c = let loop = c .before in bytes-alike (front-all (loop .before .before .args .a .now) (loop .before .before .args .b .now) (loop .loop .i) (omega (arith, c .loop-test .left, loop .loop .inv)) (omega (arith, c .loop-test .left, loop .loop .inv)) (loop .loop .inv .1 .1 .1))
+
+pub same-bytes-spec : {M : Type 1} → statement M
+same-bytes-spec =
+    tie.close
+    (tie.spec
+    Inv-loop
+    μ-loop
+    returns
+    loop-holds
+    shared-slice-read-if2
+    shared-slice-read-if2-2
+    returns-2
+    add-i
+    loop-less
+    loop-again
+    returns-3)
