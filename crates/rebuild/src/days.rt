@@ -31,6 +31,8 @@ pub fn put_words(words: &[i64], out: &mut [i64], at: usize)
 // The days of a sui.
 pub fn days_words(days: SuiDays) -> [i64; 28]
     requires { ⌜ days .months ≤ 13 ⌝ }
+    requires { ⌜ length (days .moons) ≡ 14 ⌝ }
+    requires { ⌜ length (days .zhongqi) ≡ 13 ⌝ }
     ensures { λ r. ⌜ r ≡ daysWords days ⌝ }
 {
     let mut words: [i64; 28] = [0; 28];

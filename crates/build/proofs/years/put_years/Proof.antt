@@ -62,7 +62,7 @@ at-turn c = rw (toZ-ofZ (c .before .fits .zone), toZ-ofZ (c .before .fits .first
 
 -- the numbers of the turn are small
 few : (c : Loop) → (c .before .args .n ≤ 128) × (c .loop .from ≤ 13 * c .loop .j) × (c .loop .j ≤ c .before .args .n)
-few c = let t = at-turn c in (t .walks .begun .few-years, t .walked .few, t .in-turn)
+few c = let t = at-turn c in (t .walks .begun .few-years, t .walked .reached .few, t .in-turn)
 
 -- year j
 year-small : (start : Start) → Within 2500 (start .args .first)
@@ -76,16 +76,16 @@ at-added c = back (c .add .result) (c .add .ok) ∙ (rw (toZ-ofZ (c .before .bef
 
 -- the days ahead of it
 solstices-there : (c : Loop) → c .loop .j < c .before .args .n → c .loop .j ≤ length (c .before .args .solstices .now)
-solstices-there c h = let a = c .before .args in let t = at-turn c in solstices-reach (inputs-of (c .before)) (a .zone) (a .suns) (a .moons) (t .places) (a .first) (a .n) (t .walks .begun) (a .suis .now) (a .months .now) (t .walked) h (t .walks)
+solstices-there c h = let a = c .before .args in let t = at-turn c in solstices-reach (inputs-of (c .before)) (a .zone) (a .suns) (a .moons) (t .places) (a .first) (a .n) (t .walks .begun) (t .walked .reached) h (t .walks)
 
 moons-there : (c : Loop) → c .loop .j < c .before .args .n → c .loop .from ≤ length (c .before .args .newmoons .now)
-moons-there c h = let a = c .before .args in let t = at-turn c in moons-reach (inputs-of (c .before)) (a .zone) (a .suns) (a .moons) (t .places) (a .first) (a .n) (t .walks .begun) (a .suis .now) (a .months .now) (t .walked) h (t .walks)
+moons-there c h = let a = c .before .args in let t = at-turn c in moons-reach (inputs-of (c .before)) (a .zone) (a .suns) (a .moons) (t .places) (a .first) (a .n) (t .walks .begun) (t .walked .reached) h (t .walks)
 
 ahead-of : (c : Loop) → c .loop .j < c .before .args .n → (let a = c .before .args in YearAhead (inputs-of (c .before)) (a .zone) (a .suns) (a .moons) (a .first +ℤ pos (c .loop .j)) (a .places .solstice + c .loop .j) (drop (c .loop .j) (a .solstices .now)) (drop (c .loop .from) (a .newmoons .now)) (take 13 (drop (13 * c .loop .j) (a .zhongqi .now))))
 ahead-of c h =
     let a = c .before .args in
     let t = at-turn c in
-    rw (t .is-place) at (year-ahead (inputs-of (c .before)) (a .zone) (a .suns) (a .moons) (t .places) (a .first) (a .n) (t .walks .begun) (a .suis .now) (a .months .now) (t .walked) h (t .walks))
+    rw (t .is-place) at (year-ahead (inputs-of (c .before)) (a .zone) (a .suns) (a .moons) (t .places) (a .first) (a .n) (t .walks .begun) (t .walked .reached) h (t .walks))
 
 -- the rest of a list, as a part of it
 rest : (l : List ℤ) (k : ℕ) → take (length l - k) (drop k l) ≡ drop k l

@@ -17,7 +17,7 @@ abbrev μ-loop : tie.MeasureT-loop
 μ-loop a b n i₀ i = n - i
 
 returns : tie.Need-returns Inv-loop μ-loop
-returns c = bytes-unlike (λ e. c .if1 .taken (ap length (sym e)))
+returns c = bytes-unlike {a = c .before .args .a .now} {b = c .before .args .b .now} (λ e. c .if1 .taken (ap length (sym e)))
 
 loop-holds : tie.Need-loop-holds Inv-loop μ-loop
 loop-holds c = (refl, (sym (c .if1 .left), (omega arith, refl)))
@@ -34,7 +34,7 @@ returns-2 c =
     let a = loop .before .before .args .a .now in
     let b = loop .before .before .args .b .now in
     let i = loop .loop .i in
-    bytes-unlike (λ e. (c .if2 .taken) (ap (λ l. getD l i 0) e))
+    bytes-unlike {a = a} {b = b} (λ e. (c .if2 .taken) (ap (λ l. getD l i 0) e))
 
 add-i : tie.Need-add-i Inv-loop μ-loop
 add-i c = search needs

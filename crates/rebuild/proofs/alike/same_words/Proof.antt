@@ -3,10 +3,11 @@ use mathlib.Core.Path.{_≡_, refl, sym, ap, _∙_}
 use Prim.Native.Nat.{_-_, _≤_}
 use native.Mathlib.Omega.{arith}
 use borrow.Author.Needs.{needs}
-use lib.IntN.{pos}
+use mathlib.Core.List.{List}
+use lib.IntN.{ℤ, pos}
 use lib.ListN.{length, getD, take}
 use mir.Syntax.{w64}
-use mir.Val.{SFits}
+use mir.Val.{SFits, ofZ, toZ}
 use mir.Facts.{toZ-ofZ}
 use Rattle.rebuild.specs.theory.Alike.{words-alike, words-unlike, front-more, front-all}
 use Rattle.rebuild.proofs.alike.same_words.Statement.{statement}
@@ -21,7 +22,7 @@ abbrev μ-loop : tie.MeasureT-loop
 μ-loop a b n i₀ i = n - i
 
 returns : tie.Need-returns Inv-loop μ-loop
-returns c = words-unlike (λ e. c .if1 .taken (ap length (sym e)))
+returns c = words-unlike {a = c .before .args .a .now} {b = c .before .args .b .now} (λ e. c .if1 .taken (ap length (sym e)))
 
 loop-holds : tie.Need-loop-holds Inv-loop μ-loop
 loop-holds c = (refl, (sym (c .if1 .left), (omega arith, refl)))
@@ -46,7 +47,7 @@ returns-2 c =
     let i = loop .loop .i in
     let f : SFits w64 (getD a i (pos 0)) = search needs in
     let g : SFits w64 (getD b i (pos 0)) = search needs in
-    words-unlike (λ e. (rw (toZ-ofZ f, toZ-ofZ g) at (c .if2 .taken)) (ap (λ l. getD l i (pos 0)) e))
+    words-unlike {a = a} {b = b} (λ e. c .if2 .taken (ap (λ (l : List ℤ). ofZ w64 (getD l i (pos 0))) e))
 
 add-i : tie.Need-add-i Inv-loop μ-loop
 add-i c = search needs
@@ -62,7 +63,7 @@ loop-again c =
     let i = loop .loop .i in
     let f : SFits w64 (getD a i (pos 0)) = search needs in
     let g : SFits w64 (getD b i (pos 0)) = search needs in
-    (refl, (loop .loop .inv .1 .0, (omega arith, front-more a b i (pos 0) (omega (arith, loop .loop .inv)) (omega (arith, loop .loop .inv)) (loop .loop .inv .1 .1 .1) (rw (toZ-ofZ f, toZ-ofZ g) at (c .if2 .left)))))
+    (refl, (loop .loop .inv .1 .0, (omega arith, front-more a b i (pos 0) (omega (arith, loop .loop .inv)) (omega (arith, loop .loop .inv)) (loop .loop .inv .1 .1 .1) (sym (toZ-ofZ f) ∙ ap (toZ w64) (c .if2 .left) ∙ toZ-ofZ g))))
 
 returns-3 : tie.Need-returns-3 Inv-loop μ-loop
 returns-3 c = let loop = c .before in words-alike (front-all (loop .before .before .args .a .now) (loop .before .before .args .b .now) (loop .loop .i) (omega (arith, c .loop-test .left, loop .loop .inv)) (omega (arith, c .loop-test .left, loop .loop .inv)) (loop .loop .inv .1 .1 .1))
