@@ -7,3 +7,4 @@ pub mod Checked
 pub mod Reader
 pub mod Writer
 pub mod Records
+pub mod Part

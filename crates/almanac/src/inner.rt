@@ -1,12 +1,19 @@
-// For builds: writing a content that is known to be lawful.
+// For builds: writing a content that is known to be lawful, and reading months of a file. Callers show that the bytes are there, and the room.
 use crate::WriteAnswer;
 use crate::writing::put_content;
+use words::inner::byte_at;
+use words::inner::signed4_at;
+use words::inner::unsigned4_at;
 ghost use mathlib.Core.Path.{_≡_};
 ghost use mathlib.Core.Bool.{true};
-ghost use lib.ListN.{length};
+ghost use mathlib.Core.List.{_++_};
+ghost use Prim.Native.Nat.{_+_, _*_, _≤_};
+ghost use lib.ListN.{length, drop};
 ghost use Rattle.refusals.specs.Lent.{writtenInto};
 ghost use Rattle.content.specs.Content.{content, lawful};
 ghost use Rattle.almanac.specs.Answers.{paperWritten, bytesInto, bytesCounted, all-bytes};
+ghost use Rattle.almanac.specs.Fields.{times, numbersIn};
+ghost use Rattle.almanac.specs.Layout.{monthFields};
 
 // Writes a lawful content into a lent file and says how many bytes it took; 12 where the file is too short.
 pub fn write_lawful(leap: &[i64], suis: &[i64], months: &[i64], file: &mut [u8]) -> WriteAnswer
@@ -21,4 +28,20 @@ pub fn write_lawful(leap: &[i64], suis: &[i64], months: &[i64], file: &mut [u8])
     }
     put_content(leap, suis, months, file);
     WriteAnswer::Written(end)
+}
+
+// Reads n months that stand from a place of a file on: handle, first day and length.
+pub fn read_months(file: &[u8], at: usize, n: usize, out: &mut [i64])
+    requires { ⌜ at + 9 * n ≤ length (now file) ⌝ }
+    requires { ⌜ 3 * n ≤ length (now out) ⌝ }
+    ensures { λ _. ⌜ now (out .exit) ≡ numbersIn (times n monthFields) (now (file .entry)) at ++ drop (3 * n) (now (out .entry)) ⌝ }
+{
+    let mut i = 0;
+    while i < n {
+        let here = at + 9 * i;
+        out[3 * i] = unsigned4_at(file, here);
+        out[3 * i + 1] = signed4_at(file, here + 4);
+        out[3 * i + 2] = byte_at(file, here + 8);
+        i += 1;
+    }
 }

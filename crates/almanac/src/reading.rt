@@ -1,5 +1,6 @@
 // Reading a section of a file into lent words. Callers show that the bytes are there, and the room.
 use crate::Counts;
+use crate::inner::read_months;
 use words::inner::byte_at;
 use words::inner::signed4_at;
 use words::inner::unsigned4_at;
@@ -8,7 +9,7 @@ ghost use mathlib.Core.List.{_++_};
 ghost use Prim.Native.Nat.{_+_, _*_, _≤_};
 ghost use lib.ListN.{length, drop};
 ghost use Rattle.almanac.specs.Fields.{times, numbersIn};
-ghost use Rattle.almanac.specs.Layout.{entryFields, suiFields, monthFields, endAt, contentAt};
+ghost use Rattle.almanac.specs.Layout.{entryFields, suiFields, endAt, contentAt};
 ghost use Rattle.almanac.specs.theory.Checked.{shortFor};
 
 // n leap entries: day and offset.
@@ -37,22 +38,6 @@ pub fn read_suis(file: &[u8], at: usize, n: usize, out: &mut [i64])
         let here = at + 5 * i;
         out[2 * i] = signed4_at(file, here);
         out[2 * i + 1] = byte_at(file, here + 4);
-        i += 1;
-    }
-}
-
-// n months: handle, first day and length.
-pub fn read_months(file: &[u8], at: usize, n: usize, out: &mut [i64])
-    requires { ⌜ at + 9 * n ≤ length (now file) ⌝ }
-    requires { ⌜ 3 * n ≤ length (now out) ⌝ }
-    ensures { λ _. ⌜ now (out .exit) ≡ numbersIn (times n monthFields) (now (file .entry)) at ++ drop (3 * n) (now (out .entry)) ⌝ }
-{
-    let mut i = 0;
-    while i < n {
-        let here = at + 9 * i;
-        out[3 * i] = unsigned4_at(file, here);
-        out[3 * i + 1] = signed4_at(file, here + 4);
-        out[3 * i + 2] = byte_at(file, here + 8);
         i += 1;
     }
 }

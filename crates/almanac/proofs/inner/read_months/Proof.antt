@@ -1,4 +1,4 @@
--- `almanac::reading::read_months` meets its contract. Assumes nothing.
+-- `almanac::inner::read_months` meets its contract. Assumes nothing.
 use mathlib.Core.Path.{_≡_, refl, sym, ap, _∙_}
 use mathlib.Core.List.{List, [], _∷_, _++_}
 use Prim.Native.Nat.{ℕ, _+_, _*_, _-_, _≤_, _<_}
@@ -13,8 +13,8 @@ use Rattle.whole.specs.Ranges.{back}
 use Rattle.almanac.specs.Fields.{times, widths, numbersIn}
 use Rattle.almanac.specs.Layout.{monthFields}
 use Rattle.almanac.specs.theory.Sections.{read-turn, read-none, three-stored}
-use Rattle.almanac.proofs.reading.read_months.Statement.{statement}
-use Rattle.almanac.proofs.reading.read_months.Tie as tie
+use Rattle.almanac.proofs.inner.read_months.Statement.{statement}
+use Rattle.almanac.proofs.inner.read_months.Tie as tie
 
 abbrev Inv-loop : tie.InvT-loop
 Inv-loop file at n out₀ i₀ out i = (i ≤ n) × ((length out ≡ length out₀) × (out ≡ numbersIn (times i monthFields) file at ++ drop (3 * i) out₀))
