@@ -1,3 +1,4 @@
 pub mod Alike
-pub mod Old
 pub mod Records
+pub mod Again
+pub mod Old

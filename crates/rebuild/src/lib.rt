@@ -3,6 +3,7 @@ use refusals::Refusal;
 
 mod alike;
 mod days;
+mod years;
 
 // How many bytes the new file has, and how many years were listed.
 pub struct Rebuilt {
