@@ -1,4 +1,4 @@
--- `series::judging::too_slow` meets its contract. Assumes nothing.
+-- `series::inner::judging::too_slow` meets its contract. Assumes nothing.
 use Prim.Native.Nat.{ℕ, _*_}
 use borrow.Author.Needs.{needs}
 use lib.IntN.{pos}
@@ -6,8 +6,8 @@ use mathlib.Core.Path.{_≡_, ap, _∙_}
 use native.Mathlib.Omega.{arith}
 use Rattle.whole.specs.Ranges.{back}
 use Rattle.series.specs.Bodies.{numbers, body-laws}
-use Rattle.series.proofs.judging.too_slow.Statement.{statement}
-use Rattle.series.proofs.judging.too_slow.Tie as tie
+use Rattle.series.proofs.inner.judging.too_slow.Statement.{statement}
+use Rattle.series.proofs.inner.judging.too_slow.Tie as tie
 
 half-length-requires : tie.Need-half-length-requires
 half-length-requires c κs = search needs

@@ -1,9 +1,9 @@
--- `series::judging::floor_by_half` meets its contract: chebyshev's `Shifted` at the half-length of each body. Assumes nothing.
+-- `series::inner::judging::floor_by_half` meets its contract: chebyshev's `Shifted` at the half-length of each body. Assumes nothing.
 use borrow.Author.Needs.{needs}
 use native.Mathlib.Omega.{arith}
 use Rattle.evaluator.proofs.Shifted.{sum-fits, cast-fits, quotient-fits, result-fits, result-is}
-use Rattle.series.proofs.judging.floor_by_half.Statement.{statement}
-use Rattle.series.proofs.judging.floor_by_half.Tie as tie
+use Rattle.series.proofs.inner.judging.floor_by_half.Statement.{statement}
+use Rattle.series.proofs.inner.judging.floor_by_half.Tie as tie
 
 enum-told : tie.Need-enum-told
 enum-told c = search needs

@@ -1,7 +1,7 @@
--- `series::judging::first_of` meets its contract. Assumes nothing.
+-- `series::inner::judging::first_of` meets its contract. Assumes nothing.
 use borrow.Author.Tests.{lt-ltb, le-ltb}
-use Rattle.series.proofs.judging.first_of.Statement.{statement}
-use Rattle.series.proofs.judging.first_of.Tie as tie
+use Rattle.series.proofs.inner.judging.first_of.Statement.{statement}
+use Rattle.series.proofs.inner.judging.first_of.Tie as tie
 
 returns : tie.Need-returns
 returns c = rw (lt-ltb _ _ (c .if1 .taken))

@@ -1,7 +1,7 @@
--- `series::judging::most` meets its contract. Assumes nothing.
+-- `series::inner::judging::most` meets its contract. Assumes nothing.
 use borrow.Author.Needs.{needs}
-use Rattle.series.proofs.judging.most.Statement.{statement}
-use Rattle.series.proofs.judging.most.Tie as tie
+use Rattle.series.proofs.inner.judging.most.Statement.{statement}
+use Rattle.series.proofs.inner.judging.most.Tie as tie
 
 enum-told : tie.Need-enum-told
 enum-told c = search needs

@@ -1,4 +1,4 @@
--- `series::judging::joins_badly` meets its contract. In the needs, `later` is the place where k is not 0. Assumes nothing.
+-- `series::inner::judging::joins_badly` meets its contract. In the needs, `later` is the place where k is not 0. Assumes nothing.
 use borrow.Author.Tests.{eq-eqb, ne-eqb}
 use mathlib.Core.Path.{_≡_, _∙_}
 use mathlib.Core.Bool.{false}
@@ -9,10 +9,10 @@ use mir.Val.{ofZ, toZ}
 use mir.Facts.{toZ-ofZ}
 use Rattle.whole.specs.Booleans.{first-holds, second-decides}
 use Rattle.whole.specs.Ranges.{fits, bounds, back}
-use Rattle.series.proofs.judging.joins_badly.Statement.{statement}
-use Rattle.series.proofs.judging.joins_badly.Tie as tie
-use Rattle.series.proofs.judging.joins_badly.Reads as reads
-use Rattle.series.proofs.judging.joins_badly.Lts as lts
+use Rattle.series.proofs.inner.judging.joins_badly.Statement.{statement}
+use Rattle.series.proofs.inner.judging.joins_badly.Tie as tie
+use Rattle.series.proofs.inner.judging.joins_badly.Reads as reads
+use Rattle.series.proofs.inner.judging.joins_badly.Lts as lts
 use Rattle.whole.proofs.inner.subtract.Reads as subtract-reads
 
 abbrev called : lts.Claims

@@ -1,4 +1,4 @@
--- `series::judging::ends_of` meets its contract: the closed forms, which are the values there by `first-value` and `last-value`. Assumes nothing.
+-- `series::inner::judging::ends_of` meets its contract: the closed forms, which are the values there by `first-value` and `last-value`. Assumes nothing.
 use borrow.Author.Needs.{needs}
 use mathlib.Core.Path.{_≡_, refl, sym, _∙_}
 use mathlib.Core.List.{List, [], _∷_}
@@ -15,14 +15,14 @@ use Rattle.chebyshev.specs.Theorems as theorems
 use Rattle.series.specs.declared.Body.{Body}
 use Rattle.series.specs.Bodies.{numbers, body-laws}
 use Rattle.series.specs.theory.Span.{last-within}
-use Rattle.series.proofs.judging.ends_of.Statement.{statement}
-use Rattle.series.proofs.judging.ends_of.Tie as tie
-use Rattle.series.proofs.judging.ends_of.Reads as reads
-use Rattle.series.proofs.judging.ends_of.Lts as lts
+use Rattle.series.proofs.inner.judging.ends_of.Statement.{statement}
+use Rattle.series.proofs.inner.judging.ends_of.Tie as tie
+use Rattle.series.proofs.inner.judging.ends_of.Reads as reads
+use Rattle.series.proofs.inner.judging.ends_of.Lts as lts
 use Rattle.evaluator.proofs.inner.even_sum.Reads as even-sum-reads
 use Rattle.evaluator.proofs.inner.odd_sum.Reads as odd-sum-reads
 use Rattle.evaluator.proofs.inner.square_sum.Reads as square-sum-reads
-use Rattle.series.proofs.judging.floor_by_half.Reads as floor-by-half-reads
+use Rattle.series.proofs.inner.judging.floor_by_half.Reads as floor-by-half-reads
 use Rattle.whole.proofs.inner.add.Reads as add-reads
 use Rattle.whole.proofs.inner.subtract.Reads as subtract-reads
 

@@ -1,4 +1,4 @@
--- `series::judging::each_segment` meets its contract: `Passed` before each segment. Assumes nothing.
+-- `series::inner::judging::each_segment` meets its contract: `Passed` before each segment. Assumes nothing.
 use borrow.Author.Needs.{needs}
 use mathlib.Core.Path.{_≡_, sym, _∙_}
 use mathlib.Core.Bool.{false}
@@ -21,17 +21,17 @@ use Rattle.series.specs.Acceptance.{badRange, slow}
 use Rattle.series.specs.theory.Known.{segment-length}
 use Rattle.series.specs.theory.Span.{first-within, last-within}
 use Rattle.series.proofs.Pass.{Passed, pass-start, pass-refused, pass-end, pass-turn, part-in-range}
-use Rattle.series.proofs.judging.each_segment.Statement.{statement}
-use Rattle.series.proofs.judging.each_segment.Tie as tie
-use Rattle.series.proofs.judging.each_segment.Reads as reads
-use Rattle.series.proofs.judging.each_segment.Lts as lts
+use Rattle.series.proofs.inner.judging.each_segment.Statement.{statement}
+use Rattle.series.proofs.inner.judging.each_segment.Tie as tie
+use Rattle.series.proofs.inner.judging.each_segment.Reads as reads
+use Rattle.series.proofs.inner.judging.each_segment.Lts as lts
 use Rattle.evaluator.proofs.inner.out_of_range.Reads as out-of-range-reads
 use Rattle.series.proofs.inner.segment_of.Reads as segment-of-reads
-use Rattle.series.proofs.judging.first_of.Reads as first-of-reads
-use Rattle.series.proofs.judging.joins_badly.Reads as joins-badly-reads
-use Rattle.series.proofs.judging.kept_refusal.Reads as kept-refusal-reads
-use Rattle.series.proofs.judging.ends_of.Reads as ends-of-reads
-use Rattle.series.proofs.judging.too_slow.Reads as too-slow-reads
+use Rattle.series.proofs.inner.judging.first_of.Reads as first-of-reads
+use Rattle.series.proofs.inner.judging.joins_badly.Reads as joins-badly-reads
+use Rattle.series.proofs.inner.judging.kept_refusal.Reads as kept-refusal-reads
+use Rattle.series.proofs.inner.judging.ends_of.Reads as ends-of-reads
+use Rattle.series.proofs.inner.judging.too_slow.Reads as too-slow-reads
 
 abbrev Inv-loop : tie.InvT-loop
 Inv-loop body coefs count slow₀ joint₀ last₀ k₀ slow joint last k = Passed body coefs slow joint (toZ w64 last) k

@@ -1,7 +1,7 @@
--- `series::judging::kept_refusal` meets its contract. Assumes nothing.
+-- `series::inner::judging::kept_refusal` meets its contract. Assumes nothing.
 use borrow.Author.Tests.{lt-ltb, le-ltb}
-use Rattle.series.proofs.judging.kept_refusal.Statement.{statement}
-use Rattle.series.proofs.judging.kept_refusal.Tie as tie
+use Rattle.series.proofs.inner.judging.kept_refusal.Statement.{statement}
+use Rattle.series.proofs.inner.judging.kept_refusal.Tie as tie
 
 returns : tie.Need-returns
 returns c = rw (lt-ltb _ _ (c .if1 .taken))

@@ -1,4 +1,4 @@
--- `series::judging::shape` meets its contract: each test that is passed goes on to the next. Assumes nothing.
+-- `series::inner::judging::shape` meets its contract: each test that is passed goes on to the next. Assumes nothing.
 use Prim.Native.Nat.{_%_, _*_}
 use borrow.Author.Needs.{needs}
 use borrow.Author.Tests.{eq-eqb, ne-eqb, lt-ltb, le-ltb}
@@ -12,11 +12,11 @@ use mir.Val.{ofZ, toZ}
 use Rattle.whole.specs.Ranges.{back}
 use Rattle.refusals.specs.Verdict.{test-refuses, test-passes}
 use Rattle.series.specs.Bodies.{numbers}
-use Rattle.series.proofs.judging.shape.Statement.{statement}
-use Rattle.series.proofs.judging.shape.Tie as tie
-use Rattle.series.proofs.judging.shape.Reads as reads
-use Rattle.series.proofs.judging.shape.Lts as lts
-use Rattle.series.proofs.judging.most.Reads as most-reads
+use Rattle.series.proofs.inner.judging.shape.Statement.{statement}
+use Rattle.series.proofs.inner.judging.shape.Tie as tie
+use Rattle.series.proofs.inner.judging.shape.Reads as reads
+use Rattle.series.proofs.inner.judging.shape.Lts as lts
+use Rattle.series.proofs.inner.judging.most.Reads as most-reads
 
 abbrev called : lts.Claims
 called = (most-reads.Asked, most-reads.Learnt)

@@ -1,4 +1,4 @@
--- `inputs::any_early` meets its contract: the first mark tells. Assumes nothing.
+-- `inputs::inner::any_early` meets its contract: the first mark tells. Assumes nothing.
 use mathlib.Core.Path.{_≡_, refl, sym, ap, _∙_}
 use Prim.Native.Nat.{_<_}
 use native.Mathlib.Omega.{arith}
@@ -13,10 +13,10 @@ use Rattle.marks.specs.Listed.{listedMarks}
 use Rattle.inputs.specs.Inputs.{second}
 use Rattle.inputs.specs.theory.Early.{no-marks}
 use Rattle.inputs.specs.theory.First.{first-converts, first-tells}
-use Rattle.inputs.proofs.any_early.Statement.{statement}
-use Rattle.inputs.proofs.any_early.Tie as tie
-use Rattle.inputs.proofs.any_early.Reads as reads
-use Rattle.inputs.proofs.any_early.Lts as lts
+use Rattle.inputs.proofs.inner.any_early.Statement.{statement}
+use Rattle.inputs.proofs.inner.any_early.Tie as tie
+use Rattle.inputs.proofs.inner.any_early.Reads as reads
+use Rattle.inputs.proofs.inner.any_early.Lts as lts
 use Rattle.conversion.proofs.inner.early.Reads as early-reads
 use Rattle.finder.proofs.inner.count.Reads as count-reads
 use Rattle.locator.proofs.inner.nth_mark.Reads as nth-mark-reads
