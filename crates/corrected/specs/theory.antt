@@ -1,1 +1,4 @@
 pub mod Compared
+pub mod Parts
+pub mod Shifted
+pub mod Judged

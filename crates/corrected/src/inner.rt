@@ -1,12 +1,22 @@
 // A corrected series against the one before it. Callers show that the old one is accepted.
+use refusals::Check;
+use refusals::Refusal;
+use series::Body;
+use series::inner::judging::each_segment;
+use series::inner::judging::shape;
 use series::inner::segment_of;
+use times::Second;
 ghost use mathlib.Core.Path.{_≡_};
 ghost use mathlib.Core.Bool.{true};
 ghost use mathlib.Core.Logic.{_↔_};
-ghost use Prim.Native.Nat.{_≤_, _<_};
-ghost use Rattle.series.specs.Series.{segments};
+ghost use Prim.Native.Nat.{_-_, _^_, _≤_, _<_};
+ghost use Rattle.refusals.specs.Verdict.{paperCheck};
+ghost use Rattle.series.specs.Series.{series, segments};
+ghost use Rattle.series.specs.Acceptance.{Accepted, judgedSegments, seriesJudged};
 ghost use Rattle.corrected.specs.Shared.{Shared};
 ghost use Rattle.corrected.specs.theory.Compared.{SameAt, SameBefore, SameFrom};
+ghost use Rattle.corrected.specs.theory.Parts.{partOf};
+ghost use Rattle.corrected.specs.theory.Shifted.{shiftedBy, Below};
 
 // The segments from `first` on and before `end`: no other differs from the old one of its number.
 pub struct Changed {
@@ -77,4 +87,77 @@ pub fn changed_segments(old: &[i64], coefs: &[i64]) -> Changed
         first: first,
         end: end,
     }
+}
+
+// The part of the coefficients from one segment on and before another.
+fn part_of(coefs: &[i64], from: usize, to: usize) -> &[i64]
+    requires { ⌜ from ≤ to ⌝ }
+    requires { ⌜ to ≤ segments (now coefs) ⌝ }
+    ensures { λ r. ⌜ now r ≡ partOf (now (coefs .entry)) from to ⌝ }
+{
+    &coefs[14 * from..14 * to]
+}
+
+// The segment before the first that differs, or that one.
+fn begin_of(first: usize) -> usize
+    ensures { λ r. ⌜ r ≡ first - 1 ⌝ }
+{
+    if first == 0 { 0 } else { first - 1 }
+}
+
+// The segment behind the last that differs is the last of a part that ends here, if there is one.
+fn end_of(end: usize, count: usize) -> usize
+    requires { ⌜ end ≤ count ⌝ }
+    ensures { λ r. ⌜ r ≤ count ⌝ }
+    ensures { λ r. ⌜ end ≤ r ⌝ }
+    ensures { λ r. ⌜ (end < count → end < r) ⌝ }
+{
+    if end < count { end + 1 } else { end }
+}
+
+// What is said of a part, said of the whole: `from` segments come before it.
+fn shifted(check: Check, from: usize) -> Check
+    requires { ⌜ Below (2 ^ 62) (shiftedBy from (paperCheck check)) ⌝ }
+    ensures { λ r. ⌜ paperCheck r ≡ shiftedBy from (paperCheck check) ⌝ }
+{
+    if let Check::Refused(r) = check {
+        return Check::Refused(Refusal {
+            number: r.number,
+            segment: from + r.segment,
+        });
+    }
+    Check::Accepted
+}
+
+// 3, 4 and 5 of a part of the segments, by their numbers in the whole.
+fn judged_part(body: Body, coefs: &[i64], from: usize, to: usize) -> Check
+    requires { ⌜ from ≤ to ⌝ }
+    requires { ⌜ to ≤ segments (now coefs) ⌝ }
+    ensures { λ r. ⌜ paperCheck r ≡ shiftedBy from (judgedSegments body (partOf (now (coefs .entry)) from to)) ⌝ }
+{
+    let judged = each_segment(body, part_of(coefs, from, to));
+    shifted(judged, from)
+}
+
+// Accepts the new series, or refuses it by 2, 3, 4 or 5, as `series::accept` does, by judging what changed: of the other segments and joints the old series was
+// accepted.
+pub fn accept_again(
+    body: Body,
+    oldstart: Second,
+    old: &[i64],
+    start: Second,
+    coefs: &[i64],
+    part: Changed,
+) -> Check
+    requires { ⌜ Accepted (series body (oldstart .0) (now old)) ⌝ }
+    requires { ⌜ Shared (now old) (now coefs) (part .first) (part .end) ⌝ }
+    ensures { λ r. ⌜ paperCheck r ≡ seriesJudged (series body (start .0) (now (coefs .entry))) ⌝ }
+{
+    let judged = shape(body, start, coefs.len());
+    if let Check::Refused(r) = judged {
+        return Check::Refused(r);
+    }
+    let from = begin_of(part.first);
+    let to = end_of(part.end, coefs.len() / 14);
+    judged_part(body, coefs, from, to)
 }
