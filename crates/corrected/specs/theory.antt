@@ -2,3 +2,5 @@ pub mod Compared
 pub mod Parts
 pub mod Shifted
 pub mod Judged
+pub mod Values
+pub mod Kept

@@ -1,22 +1,30 @@
 // A corrected series against the one before it. Callers show that the old one is accepted.
+use finder::inner::first_reached;
+use finder::inner::index_at;
+use finder::inner::last_reached;
 use refusals::Check;
 use refusals::Refusal;
 use series::Body;
+use series::inner::half_length;
 use series::inner::judging::each_segment;
 use series::inner::judging::shape;
 use series::inner::segment_of;
 use times::Second;
+use whole::inner::add;
+use whole::inner::signed;
+use whole::inner::subtract;
 ghost use mathlib.Core.Path.{_≡_};
 ghost use mathlib.Core.Bool.{true};
 ghost use mathlib.Core.Logic.{_↔_};
 ghost use Prim.Native.Nat.{_-_, _^_, _≤_, _<_};
 ghost use Rattle.refusals.specs.Verdict.{paperCheck};
-ghost use Rattle.series.specs.Series.{series, segments};
+ghost use Rattle.series.specs.Series.{series, segments, segmentStart};
 ghost use Rattle.series.specs.Acceptance.{Accepted, judgedSegments, seriesJudged};
-ghost use Rattle.corrected.specs.Shared.{Shared};
+ghost use Rattle.corrected.specs.Shared.{Shared, Stays};
 ghost use Rattle.corrected.specs.theory.Compared.{SameAt, SameBefore, SameFrom};
 ghost use Rattle.corrected.specs.theory.Parts.{partOf};
 ghost use Rattle.corrected.specs.theory.Shifted.{shiftedBy, Below};
+ghost use Rattle.corrected.specs.theory.Kept.{reachedBefore, reachedFrom};
 
 // The segments from `first` on and before `end`: no other differs from the old one of its number.
 pub struct Changed {
@@ -160,4 +168,61 @@ pub fn accept_again(
     let from = begin_of(part.first);
     let to = end_of(part.end, coefs.len() / 14);
     judged_part(body, coefs, from, to)
+}
+
+// The first second of segment k, or the second behind the last one.
+fn segment_start(body: Body, start: Second, coefs: &[i64], k: usize) -> Second
+    requires { ⌜ Accepted (series body (start .0) (now coefs)) ⌝ }
+    requires { ⌜ k ≤ segments (now coefs) ⌝ }
+    ensures { λ r. ⌜ r .0 ≡ segmentStart (series body (start .0) (now (coefs .entry))) k ⌝ }
+{
+    let from = start.0;
+    let seconds = 2 * half_length(body) * k;
+    Second(add(from, signed(seconds)))
+}
+
+// How many marks are reached before segment k; before the first segment, those of the first second.
+fn reached_before(body: Body, start: Second, coefs: &[i64], k: usize) -> i64
+    requires { ⌜ Accepted (series body (start .0) (now coefs)) ⌝ }
+    requires { ⌜ k ≤ segments (now coefs) ⌝ }
+    ensures { λ r. ⌜ r ≡ reachedBefore (series body (start .0) (now (coefs .entry))) k ⌝ }
+{
+    if k == 0 {
+        return first_reached(body, start, coefs);
+    }
+    let begin = segment_start(body, start, coefs, k);
+    index_at(body, start, coefs, Second(subtract(begin.0, 1)))
+}
+
+// How many are reached at the first second of segment k; behind the last segment, all.
+fn reached_from(body: Body, start: Second, coefs: &[i64], k: usize) -> i64
+    requires { ⌜ Accepted (series body (start .0) (now coefs)) ⌝ }
+    requires { ⌜ k ≤ segments (now coefs) ⌝ }
+    ensures { λ r. ⌜ r ≡ reachedFrom (series body (start .0) (now (coefs .entry))) k ⌝ }
+{
+    if coefs.len() / 14 <= k {
+        return last_reached(body, start, coefs);
+    }
+    index_at(body, start, coefs, segment_start(body, start, coefs, k))
+}
+
+// The marks behind `low` and up to `high`: no other listed mark is at another second than before.
+pub struct Moved {
+    pub low: i64,
+    pub high: i64,
+}
+
+// Which marks may have moved, where both series begin at the same second.
+pub fn moved_marks(body: Body, start: Second, old: &[i64], coefs: &[i64], part: Changed) -> Moved
+    requires { ⌜ Accepted (series body (start .0) (now old)) ⌝ }
+    requires { ⌜ Accepted (series body (start .0) (now coefs)) ⌝ }
+    requires { ⌜ Shared (now old) (now coefs) (part .first) (part .end) ⌝ }
+    ensures { λ r. ⌜ Stays (series body (start .0) (now (old .entry))) (series body (start .0) (now (coefs .entry))) (r .low) (r .high) ⌝ }
+{
+    let low = reached_before(body, start, coefs, part.first);
+    let high = reached_from(body, start, coefs, part.end);
+    Moved {
+        low: low,
+        high: high,
+    }
 }
