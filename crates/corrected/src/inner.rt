@@ -2,6 +2,7 @@
 use finder::inner::first_reached;
 use finder::inner::index_at;
 use finder::inner::last_reached;
+use inputs::inner::any_early;
 use refusals::Check;
 use refusals::Refusal;
 use series::Body;
@@ -18,8 +19,10 @@ ghost use mathlib.Core.Bool.{true};
 ghost use mathlib.Core.Logic.{_↔_};
 ghost use Prim.Native.Nat.{_-_, _^_, _≤_, _<_};
 ghost use Rattle.refusals.specs.Verdict.{paperCheck};
+ghost use Rattle.series.specs.declared.Body.the-variants.{Sun, Moon};
 ghost use Rattle.series.specs.Series.{series, segments, segmentStart};
 ghost use Rattle.series.specs.Acceptance.{Accepted, judgedSegments, seriesJudged};
+ghost use Rattle.inputs.specs.Inputs.{inputs, inputsJudged};
 ghost use Rattle.corrected.specs.Shared.{Shared, Stays};
 ghost use Rattle.corrected.specs.theory.Compared.{SameAt, SameBefore, SameFrom};
 ghost use Rattle.corrected.specs.theory.Parts.{partOf};
@@ -30,6 +33,12 @@ ghost use Rattle.corrected.specs.theory.Kept.{reachedBefore, reachedFrom
 pub struct Changed {
     pub first: usize,
     pub end: usize,
+}
+
+// The marks behind `low` and up to `high`: no other listed mark is at another second than before.
+pub struct Moved {
+    pub low: i64,
+    pub high: i64,
 }
 
 // Whether two segments are the same words. All are compared, whatever the first ones are, so that they are compared side by side.
@@ -170,6 +179,47 @@ pub fn accept_again(
     judged_part(body, coefs, from, to)
 }
 
+// Judges everything that a build is handed, as `inputs::judge` does: 1, then 2 to 5 for the Sun's and the Moon's series by what changed, then 7.
+pub fn judge_again(
+    oldsunstart: Second,
+    oldsun: &[i64],
+    oldmoonstart: Second,
+    oldmoon: &[i64],
+    leap: &[i64],
+    sunstart: Second,
+    sun: &[i64],
+    moonstart: Second,
+    moon: &[i64],
+    sunpart: Changed,
+    moonpart: Changed,
+) -> Check
+    requires { ⌜ Accepted (series Sun (oldsunstart .0) (now oldsun)) ⌝ }
+    requires { ⌜ Accepted (series Moon (oldmoonstart .0) (now oldmoon)) ⌝ }
+    requires { ⌜ Shared (now oldsun) (now sun) (sunpart .first) (sunpart .end) ⌝ }
+    requires { ⌜ Shared (now oldmoon) (now moon) (moonpart .first) (moonpart .end) ⌝ }
+    ensures { λ r. ⌜ paperCheck r ≡ inputsJudged (inputs (now (leap .entry)) (sunstart .0) (now (sun .entry)) (moonstart .0) (now (moon .entry))) ⌝ }
+{
+    let leap_check = conversion::judge_leap_table(leap);
+    if let Check::Refused(r) = leap_check {
+        return Check::Refused(r);
+    }
+    let sun_check = accept_again(Body::Sun, oldsunstart, oldsun, sunstart, sun, sunpart);
+    if let Check::Refused(r) = sun_check {
+        return Check::Refused(r);
+    }
+    let moon_check = accept_again(Body::Moon, oldmoonstart, oldmoon, moonstart, moon, moonpart);
+    if let Check::Refused(r) = moon_check {
+        return Check::Refused(r);
+    }
+    if any_early(leap, Body::Sun, sunstart, sun) {
+        return Check::Refused(refusals::TOO_EARLY);
+    }
+    if any_early(leap, Body::Moon, moonstart, moon) {
+        return Check::Refused(refusals::TOO_EARLY);
+    }
+    Check::Accepted
+}
+
 // The first second of segment k, or the second behind the last one.
 fn segment_start(body: Body, start: Second, coefs: &[i64], k: usize) -> Second
     requires { ⌜ Accepted (series body (start .0) (now coefs)) ⌝ }
@@ -204,12 +254,6 @@ fn reached_from(body: Body, start: Second, coefs: &[i64], k: usize) -> i64
         return last_reached(body, start, coefs);
     }
     index_at(body, start, coefs, segment_start(body, start, coefs, k))
-}
-
-// The marks behind `low` and up to `high`: no other listed mark is at another second than before.
-pub struct Moved {
-    pub low: i64,
-    pub high: i64,
 }
 
 // Which marks may have moved, where both series begin at the same second.
