@@ -1,12 +1,12 @@
--- `corrected::inner::reached_from` meets its contract. In the needs, `start` is the function's entry. Assumes nothing.
+-- `corrected::reaching::reached_from` meets its contract. In the needs, `start` is the function's entry. Assumes nothing.
 use mathlib.Core.Path.{_∙_}
 use borrow.Author.Tests.{lt-ltb, le-ltb}
 use borrow.Author.Needs.{needs}
 use Rattle.whole.specs.Ranges.{back}
 use Rattle.series.specs.Series.{series}
 use Rattle.corrected.specs.theory.Values.{first-in-span}
-use Rattle.corrected.proofs.inner.reached_from.Statement.{statement}
-use Rattle.corrected.proofs.inner.reached_from.Tie as tie
+use Rattle.corrected.proofs.reaching.reached_from.Statement.{statement}
+use Rattle.corrected.proofs.reaching.reached_from.Tie as tie
 
 last-reached-requires : tie.Need-last-reached-requires
 last-reached-requires c κs = search needs

@@ -1,12 +1,12 @@
--- `corrected::inner::shifted` meets its contract. Assumes nothing.
+-- `corrected::judging::shifted` meets its contract. Assumes nothing.
 use mathlib.Core.Path.{sym, ap}
 use native.Mathlib.Omega.{arith}
 use borrow.Author.Needs.{needs}
 use Rattle.refusals.specs.declared.Check.{Check}
 use Rattle.refusals.specs.Verdict.{paperCheck}
 use Rattle.corrected.specs.theory.Shifted.{shiftedBy, refused-below}
-use Rattle.corrected.proofs.inner.shifted.Statement.{statement}
-use Rattle.corrected.proofs.inner.shifted.Tie as tie
+use Rattle.corrected.proofs.judging.shifted.Statement.{statement}
+use Rattle.corrected.proofs.judging.shifted.Tie as tie
 
 enum-known-check : tie.Need-enum-known-check
 enum-known-check c = search needs

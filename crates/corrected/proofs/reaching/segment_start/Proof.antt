@@ -1,4 +1,4 @@
--- `corrected::inner::segment_start` meets its contract. In the needs, `start` is the function's entry. Assumes nothing.
+-- `corrected::reaching::segment_start` meets its contract. In the needs, `start` is the function's entry. Assumes nothing.
 use mathlib.Core.Path.{_≡_, _∙_}
 use Prim.Native.Nat.{_*_}
 use native.Mathlib.Omega.{arith}
@@ -10,10 +10,10 @@ use Rattle.whole.specs.Ranges.{back}
 use Rattle.series.specs.Bodies.{body-laws}
 use Rattle.series.specs.Series.{series, segmentLength}
 use Rattle.corrected.specs.theory.Values.{seconds-before, start-fits}
-use Rattle.corrected.proofs.inner.segment_start.Statement.{statement}
-use Rattle.corrected.proofs.inner.segment_start.Tie as tie
-use Rattle.corrected.proofs.inner.segment_start.Reads as reads
-use Rattle.corrected.proofs.inner.segment_start.Lts as lts
+use Rattle.corrected.proofs.reaching.segment_start.Statement.{statement}
+use Rattle.corrected.proofs.reaching.segment_start.Tie as tie
+use Rattle.corrected.proofs.reaching.segment_start.Reads as reads
+use Rattle.corrected.proofs.reaching.segment_start.Lts as lts
 use Rattle.series.proofs.inner.half_length.Reads as half-length-reads
 use Rattle.whole.proofs.inner.add.Reads as add-reads
 use Rattle.whole.proofs.inner.signed.Reads as signed-reads

@@ -1,11 +1,11 @@
--- `corrected::inner::changed_end` meets its contract: all segments from `end` on are the same. Assumes nothing.
+-- `corrected::comparing::changed_end` meets its contract: all segments from `end` on are the same. Assumes nothing.
 use Prim.Native.Nat.{_≤_}
 use native.Mathlib.Omega.{arith}
 use borrow.Author.Needs.{needs}
 use Rattle.series.specs.Series.{segments}
 use Rattle.corrected.specs.theory.Compared.{SameFrom, none-behind, one-behind}
-use Rattle.corrected.proofs.inner.changed_end.Statement.{statement}
-use Rattle.corrected.proofs.inner.changed_end.Tie as tie
+use Rattle.corrected.proofs.comparing.changed_end.Statement.{statement}
+use Rattle.corrected.proofs.comparing.changed_end.Tie as tie
 
 abbrev Inv-loop : tie.InvT-loop
 Inv-loop old coefs first end₀ end = (first ≤ end) × ((end ≤ segments coefs) × SameFrom old coefs end)

@@ -1,4 +1,4 @@
--- `corrected::inner::reached_before` meets its contract. Assumes nothing.
+-- `corrected::reaching::reached_before` meets its contract. Assumes nothing.
 use mathlib.Core.Path.{_≡_, sym, ap, _∙_}
 use native.Mathlib.Omega.{arith}
 use borrow.Author.Needs.{needs}
@@ -10,11 +10,11 @@ use Rattle.series.specs.Series.{Series, series, segmentStart, InSpan}
 use Rattle.series.specs.theory.Span.{second-fits}
 use Rattle.corrected.specs.theory.Values.{last-in-span}
 use Rattle.corrected.specs.theory.Kept.{reachedBefore, reached-before-some}
-use Rattle.corrected.proofs.inner.reached_before.Statement.{statement}
-use Rattle.corrected.proofs.inner.reached_before.Tie as tie
-use Rattle.corrected.proofs.inner.reached_before.Reads as reads
-use Rattle.corrected.proofs.inner.reached_before.Lts as lts
-use Rattle.corrected.proofs.inner.segment_start.Reads as segment-start-reads
+use Rattle.corrected.proofs.reaching.reached_before.Statement.{statement}
+use Rattle.corrected.proofs.reaching.reached_before.Tie as tie
+use Rattle.corrected.proofs.reaching.reached_before.Reads as reads
+use Rattle.corrected.proofs.reaching.reached_before.Lts as lts
+use Rattle.corrected.proofs.reaching.segment_start.Reads as segment-start-reads
 use Rattle.finder.proofs.inner.first_reached.Reads as first-reached-reads
 use Rattle.finder.proofs.inner.index_at.Reads as index-at-reads
 use Rattle.whole.proofs.inner.subtract.Reads as subtract-reads

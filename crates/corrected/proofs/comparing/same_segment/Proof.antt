@@ -1,4 +1,4 @@
--- `corrected::inner::same_segment` meets its contract. In the needs, `start` is the function's entry, and `new` the place where the new segment is taken. Assumes nothing.
+-- `corrected::comparing::same_segment` meets its contract. In the needs, `start` is the function's entry, and `new` the place where the new segment is taken. Assumes nothing.
 use mathlib.Core.Path.{refl, sym, ap, _∙_}
 use Prim.Native.Nat.{_<_}
 use native.Mathlib.Omega.{arith}
@@ -7,8 +7,8 @@ use Rattle.whole.specs.Booleans.{not-both}
 use Rattle.series.specs.Series.{segments}
 use Rattle.series.specs.theory.Known.{segment-length}
 use borrow.Author.Needs.{needs}
-use Rattle.corrected.proofs.inner.same_segment.Statement.{statement}
-use Rattle.corrected.proofs.inner.same_segment.Tie as tie
+use Rattle.corrected.proofs.comparing.same_segment.Statement.{statement}
+use Rattle.corrected.proofs.comparing.same_segment.Tie as tie
 
 returns : tie.Need-returns
 returns c =

@@ -1,11 +1,11 @@
--- `corrected::inner::first_changed` meets its contract: all segments before k are the same. Assumes nothing.
+-- `corrected::comparing::first_changed` meets its contract: all segments before k are the same. Assumes nothing.
 use Prim.Native.Nat.{_-_, _≤_}
 use native.Mathlib.Omega.{arith}
 use borrow.Author.Needs.{needs}
 use Rattle.series.specs.Series.{segments}
 use Rattle.corrected.specs.theory.Compared.{SameBefore, none-before, one-before}
-use Rattle.corrected.proofs.inner.first_changed.Statement.{statement}
-use Rattle.corrected.proofs.inner.first_changed.Tie as tie
+use Rattle.corrected.proofs.comparing.first_changed.Statement.{statement}
+use Rattle.corrected.proofs.comparing.first_changed.Tie as tie
 
 abbrev Inv-loop : tie.InvT-loop
 Inv-loop old coefs count k₀ k = (k ≤ segments coefs) × SameBefore old coefs k

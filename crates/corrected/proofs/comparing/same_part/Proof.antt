@@ -1,11 +1,11 @@
--- `corrected::inner::same_part` meets its contract: `SoFar` before each word. Assumes nothing.
+-- `corrected::comparing::same_part` meets its contract: `SoFar` before each word. Assumes nothing.
 use Prim.Native.Nat.{_-_}
 use native.Mathlib.Omega.{arith}
 use borrow.Author.Needs.{needs}
 use Rattle.whole.specs.Ranges.{fits-of}
 use Rattle.corrected.specs.theory.Compared.{SoFar, none-compared, one-compared, all-compared}
-use Rattle.corrected.proofs.inner.same_part.Statement.{statement}
-use Rattle.corrected.proofs.inner.same_part.Tie as tie
+use Rattle.corrected.proofs.comparing.same_part.Statement.{statement}
+use Rattle.corrected.proofs.comparing.same_part.Tie as tie
 
 abbrev Inv-loop : tie.InvT-loop
 Inv-loop a b same₀ n₀ same n = SoFar a b n same

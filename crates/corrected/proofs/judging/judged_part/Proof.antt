@@ -1,11 +1,11 @@
--- `corrected::inner::judged_part` meets its contract. Assumes nothing.
+-- `corrected::judging::judged_part` meets its contract. Assumes nothing.
 use native.Mathlib.Omega.{arith}
 use borrow.Author.Needs.{needs}
 use Rattle.corrected.specs.theory.Parts.{partOf, part-segments}
 use Rattle.corrected.specs.theory.Shifted.{shifted-below}
 use Rattle.corrected.specs.theory.Judged.{segments-below}
-use Rattle.corrected.proofs.inner.judged_part.Statement.{statement}
-use Rattle.corrected.proofs.inner.judged_part.Tie as tie
+use Rattle.corrected.proofs.judging.judged_part.Statement.{statement}
+use Rattle.corrected.proofs.judging.judged_part.Tie as tie
 
 part-of-requires : tie.Need-part-of-requires
 part-of-requires c κs = search needs
