@@ -1,2 +1,3 @@
 pub mod Shared
 pub mod theory
+pub mod Examples

@@ -1,5 +1,6 @@
 -- `corrected::inner::accept_again` meets its contract: the shape, and then the part of the segments that changed. Assumes nothing.
 use mathlib.Core.Path.{sym, _∙_}
+use native.Mathlib.Omega.{arith}
 use borrow.Author.Needs.{needs}
 use Rattle.refusals.specs.Verdict.{refused-first, accepted-first, accepted-is}
 use Rattle.series.specs.Series.{series, segments}
@@ -45,7 +46,7 @@ returns-2 c =
     let shape = good .before .before .shape .ensures in
     let some = shape-known (series (args .body) (args .start .0) new) (accepted-is shape (good .enum-told .given .1)) .1 .0 in
     let bounds = ends .end-of .ensures in
-    let around = around-changed (segments new) (args .part .first) (args .part .end) (begins .begin-of .result) (ends .end-of .result) some (shared .in-order) (shared .inside) (begins .begin-of .ensures) (bounds .0) (bounds .1 .0) (bounds .1 .1) in
+    let around = around-changed (segments new) (args .part .first) (args .part .end) (begins .begin-of .result) (ends .end-of .result) some (shared .in-order) (shared .inside) (begins .begin-of .ensures) (bounds .0) (bounds .1 .0) (λ l. omega (arith, bounds .1 .1 l)) in
     c .judged-part .ensures
     ∙ sym (judged-by-part (args .body) old new (args .part .first) (args .part .end) (segments-accepted (series (args .body) (args .oldstart .0) old) (start .pre .0)) shared around)
     ∙ accepted-first _ shape (good .enum-told .given .1)
