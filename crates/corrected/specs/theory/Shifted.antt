@@ -2,7 +2,7 @@
 -- those before. Assumes nothing.
 use mathlib.Core.Path.{_≡_, refl, ap, _∙_}
 use mathlib.Core.Bool.{Bool, true, false, cond}
-use Prim.Native.Nat.{ℕ, zero, suc, _+_, _-_, _<_, _≤_}
+use Prim.Native.Nat.{ℕ, zero, suc, _+_, _<_, _≤_}
 use native.Mathlib.Omega.{arith}
 use Rattle.refusals.specs.Verdict.{Verdict, answered, refused, accepted, _before_}
 use Rattle.refusals.specs.Search.{firstBad, none-firstBad}
