@@ -1,4 +1,4 @@
-// What builds ask of accepted inputs. The zone is in minutes.
+// What builds ask of accepted inputs, and of inputs that are being judged. The zone is in minutes.
 use series::Body;
 use times::Day;
 use times::Milli;
@@ -6,15 +6,31 @@ use times::Second;
 use whole::inner::floor_mod;
 use whole::inner::subtract;
 ghost use mathlib.Core.Path.{_≡_};
-ghost use mathlib.Core.Bool.{_&&_};
+ghost use mathlib.Core.Bool.{true, _&&_};
 ghost use lib.IntN.{pos, _*ℤ_};
 ghost use lib.Signed.{leZ, _≤ℤ_, _<ℤ_};
 ghost use Rattle.whole.specs.Floor.{floorMod};
 ghost use Rattle.whole.specs.Ranges.{Within};
+ghost use Rattle.clock.specs.Leap.{leapLawful};
 ghost use Rattle.series.specs.Series.{series};
-ghost use Rattle.marks.specs.Listed.{firstReached, lastReached};
-ghost use Rattle.inputs.specs.Inputs.{dayOfMark};
+ghost use Rattle.series.specs.Acceptance.{Accepted};
+ghost use Rattle.marks.specs.Listed.{listedMarks, firstReached, lastReached};
+ghost use Rattle.inputs.specs.Inputs.{anyEarly, dayOfMark};
 ghost use Rattle.inputs.specs.Known.{Ready};
+
+// Whether any listed mark lies before the first leap entry. Marks rise in time, so the first one tells.
+pub fn any_early(leap: &[i64], body: Body, start: Second, coefs: &[i64]) -> bool
+    requires { ⌜ leapLawful (now leap) ≡ true ⌝ }
+    requires { ⌜ Accepted (series body (start .0) (now coefs)) ⌝ }
+    ensures { λ r. ⌜ r ≡ anyEarly (now (leap .entry)) (listedMarks (series body (start .0) (now (coefs .entry)))) ⌝ }
+{
+    if finder::inner::count(body, start, coefs) == 0 {
+        return false;
+    }
+    let first = locator::inner::nth_mark(body, start, coefs, 0);
+    let second = first.second;
+    conversion::inner::early(leap, second)
+}
 
 // Whether so many seconds of a millisecond's day have passed.
 fn have_passed(milli: Milli, seconds: i64) -> bool

@@ -3,29 +3,10 @@ use refusals::Check;
 use series::Body;
 use times::Second;
 ghost use mathlib.Core.Path.{_≡_};
-ghost use mathlib.Core.Bool.{true};
 ghost use Rattle.refusals.specs.Verdict.{paperCheck};
-ghost use Rattle.clock.specs.Leap.{leapLawful};
-ghost use Rattle.series.specs.Series.{series};
-ghost use Rattle.series.specs.Acceptance.{Accepted};
-ghost use Rattle.marks.specs.Listed.{listedMarks};
-ghost use Rattle.inputs.specs.Inputs.{inputs, anyEarly, inputsJudged};
+ghost use Rattle.inputs.specs.Inputs.{inputs, inputsJudged};
 
 pub mod inner;
-
-// Whether any listed mark lies before the first leap entry. Marks rise in time, so the first one tells.
-fn any_early(leap: &[i64], body: Body, start: Second, coefs: &[i64]) -> bool
-    requires { ⌜ leapLawful (now leap) ≡ true ⌝ }
-    requires { ⌜ Accepted (series body (start .0) (now coefs)) ⌝ }
-    ensures { λ r. ⌜ r ≡ anyEarly (now (leap .entry)) (listedMarks (series body (start .0) (now (coefs .entry)))) ⌝ }
-{
-    if finder::inner::count(body, start, coefs) == 0 {
-        return false;
-    }
-    let first = locator::inner::nth_mark(body, start, coefs, 0);
-    let second = first.second;
-    conversion::inner::early(leap, second)
-}
 
 // Judges everything that a build is handed: the leap table (1), the whole Sun series and the whole Moon series (2 to 5), and that no listed mark lies before the
 // first leap entry (7).
@@ -44,10 +25,10 @@ pub fn judge(leap: &[i64], sunstart: Second, sun: &[i64], moonstart: Second, moo
     if let Check::Refused(r) = moon_check {
         return Check::Refused(r);
     }
-    if any_early(leap, Body::Sun, sunstart, sun) {
+    if inner::any_early(leap, Body::Sun, sunstart, sun) {
         return Check::Refused(refusals::TOO_EARLY);
     }
-    if any_early(leap, Body::Moon, moonstart, moon) {
+    if inner::any_early(leap, Body::Moon, moonstart, moon) {
         return Check::Refused(refusals::TOO_EARLY);
     }
     Check::Accepted

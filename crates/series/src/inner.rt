@@ -1,4 +1,5 @@
-// The value at a second of an accepted series. Callers show that the series is accepted and that the second is in its span.
+// The value at a second of an accepted series. Callers show that the series is accepted and that the second is in its span. And the judgements of a series, each
+// by itself.
 use crate::Body;
 use times::Second;
 ghost use mathlib.Core.Path.{_≡_};
@@ -9,6 +10,8 @@ ghost use Rattle.series.specs.Bodies.{numbers};
 ghost use Rattle.series.specs.Series.{series, segment, segments, segmentLength, InSpan, lastSecond, valueAt};
 ghost use Rattle.series.specs.Acceptance.{Accepted};
 ghost use Rattle.series.specs.theory.Place.{placeAfter};
+
+pub mod judging;
 
 // H, half the seconds of a segment.
 pub fn half_length(body: Body) -> usize

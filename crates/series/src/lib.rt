@@ -8,7 +8,6 @@ ghost use Rattle.series.specs.Series.{series};
 ghost use Rattle.series.specs.Acceptance.{seriesJudged, valueOf, paperValue};
 
 pub mod inner;
-mod judging;
 
 pub enum Body {
     Sun,
@@ -24,11 +23,11 @@ pub enum ValueAnswer {
 pub fn accept(body: Body, start: Second, coefs: &[i64]) -> Check
     ensures { λ r. ⌜ paperCheck r ≡ seriesJudged (series body (start .0) (now (coefs .entry))) ⌝ }
 {
-    let shape = judging::shape(body, start, coefs.len());
+    let shape = inner::judging::shape(body, start, coefs.len());
     if let Check::Refused(r) = shape {
         return Check::Refused(r);
     }
-    judging::each_segment(body, coefs)
+    inner::judging::each_segment(body, coefs)
 }
 
 // The value at a second, or a refusal by 2 to 5, or by 6 outside the span.

@@ -1,0 +1,3 @@
+pub mod Shared
+pub mod theory
+pub mod Examples

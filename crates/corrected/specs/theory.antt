@@ -1,0 +1,6 @@
+pub mod Compared
+pub mod Parts
+pub mod Shifted
+pub mod Judged
+pub mod Values
+pub mod Kept
