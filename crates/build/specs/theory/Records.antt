@@ -84,7 +84,7 @@ month-behind months rest k =
     rw (d, b, a, getD-append-add (wordsOf months) rest (3 * k) (pos 0), getD-append-add (wordsOf months) rest (3 * k + 1) (pos 0), getD-append-add (wordsOf months) rest (3 * k + 2) (pos 0))
 
 -- an answered sui has as many months as it says; so have those of consecutive years
-has-its-months : (year : ℤ) (days : SuiDays) {sui : Sui} → suiOf year days ≡ answered sui → sui .count ≤ length (sui .months)
+pub has-its-months : (year : ℤ) (days : SuiDays) {sui : Sui} → suiOf year days ≡ answered sui → sui .count ≤ length (sui .months)
 unfolding numbered
 has-its-months year days e =
     rw (← sui-is year days e)
