@@ -1,4 +1,6 @@
 pub mod Alike
 pub mod Records
 pub mod Again
+pub mod Putting
 pub mod Old
+pub mod Walking

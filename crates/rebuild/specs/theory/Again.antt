@@ -2,7 +2,7 @@
 use mathlib.Core.Path.{_≡_}
 use mathlib.Core.Bool.{Bool, true, false, cond}
 use mathlib.Core.List.{List, [], _∷_, _++_}
-use Prim.Native.Nat.{ℕ, zero, suc, _+_, _*_, _≤_, _<_}
+use Prim.Native.Nat.{ℕ, zero, suc, _+_, _*_, _/_, _≤_, _<_}
 use lib.IntN.{ℤ, pos, _+ℤ_}
 use lib.ListN.{length, getD, take, drop}
 use Rattle.whole.specs.Evaluated.{sameWords}
@@ -15,6 +15,7 @@ use Rattle.months.specs.Months.{suiOf}
 use Rattle.sui.specs.Sui.{suiDays}
 use Rattle.almanac.specs.Fields.{times, numbersIn}
 use Rattle.almanac.specs.Layout.{monthFields}
+use Rattle.build.specs.Build.{suisFrom, monthWords}
 use Rattle.build.specs.theory.Put.{monthsOf, sui-months}
 use Rattle.rebuild.specs.declared.years.PutAnswer.{PutAnswer}
 use Rattle.rebuild.specs.declared.years.PutAnswer.the-variants as put-answer
@@ -64,14 +65,16 @@ yearMonths year v before file at = v then λ days. againMonths (sameWords before
 abbrev pub yearListed : ℤ → Verdict SuiDays → List ℤ → List ℤ
 yearListed year v before = cond (isSameAs v before) (year ∷ []) []
 
-abbrev pub listedWhen : Verdict ℕ → List ℤ → List ℤ
-listedWhen (answered count) years = years
-listedWhen (refused number segment) years = []
+abbrev pub yearAgain : ℤ → Verdict SuiDays → List ℤ → ℕ → Verdict Again
+yearAgain year v before years = yearCount year v before then λ months. answered (record { months = months; years = years + length (yearListed year v before) })
 
 -- ---- n years: those listed
 unfoldable pub listedAgain : Inputs → ℤ → ℤ → List ℤ → ℕ → List ℤ
 listedAgain i zone first before zero = []
 listedAgain i zone first before (suc n) = listedAgain i zone first before n ++ yearListed (first +ℤ pos n) (suiDays i zone (first +ℤ pos n)) (take 28 (drop (28 * n) before))
+
+abbrev pub yearsAgain : Inputs → ℤ → ℤ → List ℤ → ℕ → Verdict Again
+yearsAgain i zone first before n = suisFrom i zone first n then λ suis. answered (record { months = length (monthWords suis) / 3; years = length (listedAgain i zone first before n) })
 
 -- ---- what copying asks: where the days of year j are the old ones, the old file has the months of the sui at their place
 pub record Copies (i : Inputs) (zone first : ℤ) (n : ℕ) (before : List ℤ) (file : List ℕ) (at : ℕ) : Type 0 where
