@@ -83,6 +83,10 @@ module _ (i : Inputs) (zone first : ℤ) (before : List ℤ) where
   unfolding listedAgain
   none-listed l = placed-none l 0
 
+  pub none-counted : 0 ≡ length (listedAgain i zone first before 0)
+  unfolding listedAgain
+  none-counted = refl
+
   pub year-listed : (l : List ℤ) (j : ℕ) {now : List ℤ} → j < length l → now ≡ placed 0 (listedAgain i zone first before j) l → placed (length (listedAgain i zone first before j)) (listed-at j) now ≡ placed 0 (listedAgain i zone first before (j + 1)) l
   unfolding listedAgain
   year-listed l j {now} room e =

@@ -1,3 +1,40 @@
+-- `rebuild::walk::put_years_again` meets its contract. The loop's invariant: the suis of the years before year j are found and put, and their years are listed where
+-- they are kept. Assumes nothing.
+use mathlib.Core.Path.{_≡_, refl, sym, ap, ap₂, _∙_}
+use mathlib.Core.Bool.{true}
+use mathlib.Core.List.{List}
+use Prim.Native.Nat.{ℕ, _+_, _-_, _*_, _≤_, _<_}
+use native.Mathlib.Omega.{arith}
+use native.Mathlib.Nat.{zero-add}
+use borrow.Author.Needs.{needs}
+use lib.IntN.{ℤ, pos, _+ℤ_}
+use lib.ListN.{length, getD, take, drop, length-drop}
+use lib.Seq.{take-all, length-take-le}
+use mir.Syntax.{w64}
+use mir.Val.{SFits, ofZ, toZ}
+use mir.Facts.{toZ-ofZ}
+use Rattle.whole.specs.Evaluated.{sameWords}
+use Rattle.whole.specs.Lists.{placed, placed-length}
+use Rattle.whole.specs.Ranges.{Within, fits<, bounds, back}
+use Rattle.refusals.specs.Verdict.{Verdict, answered, refused, refusal, answer-or-refusal}
+use Rattle.refusals.specs.declared.Refusal.{Refusal}
+use Rattle.inputs.specs.Inputs.{Inputs, inputs, sun}
+use Rattle.months.specs.declared.Sui.{Sui}
+use Rattle.months.specs.declared.SuiDays.{SuiDays}
+use Rattle.months.specs.Months.{suiOf}
+use Rattle.months.specs.theory.Kept as Kept
+use Rattle.turns.specs.Listed.{turns-few}
+use Rattle.sui.specs.Sui.{suiDays, suiOfYear}
+use Rattle.suis.specs.Ahead.{YearAhead}
+use Rattle.suis.specs.theory.Next.{next-year}
+use Rattle.build.specs.theory.Answered.{year-refused, year-found}
+use Rattle.build.specs.theory.Put.{monthsOf}
+use Rattle.build.specs.theory.Walk.{walk-starts, walk-goes-on, walk-ends, walk-stops, year-ahead, solstices-reach, moons-reach, sui-room, month-room}
+use Rattle.rebuild.specs.declared.years.Again.{Again as AgainRecord}
+use Rattle.rebuild.specs.declared.years.AgainAnswer.the-variants.{Again, Refused}
+use Rattle.rebuild.specs.Rebuild.{daysWords}
+use Rattle.rebuild.specs.theory.Again.{paperAgain, yearCount, yearMonths, listedAgain, Copies}
+use Rattle.rebuild.specs.theory.Walking.{Kept as Kept-by, AtAgain, fresh-count, fresh-months, again-refused, again-answered, listed-few, none-listed, year-listed, more-listed, none-counted, years-stop, years-end}
 use Rattle.rebuild.proofs.walk.put_years_again.Statement.{statement}
 use Rattle.rebuild.proofs.walk.put_years_again.Tie as tie
 use Rattle.rebuild.proofs.walk.put_years_again.Reads as reads
@@ -9,201 +46,288 @@ use Rattle.whole.proofs.inner.signed.Reads as signed-reads
 
 abbrev Inv-loop : tie.InvT-loop
 Inv-loop leap sunstart sun moonstart moon zone suns moons first n solstices newmoons zhongqi before old at suis₀ months₀ kept₀ place j₀ from₀ copied₀ years₀ suis months kept j from copied years =
-    ?
+    AtAgain (inputs leap (sunstart .0) sun (moonstart .0) moon) (toZ w64 zone) suns moons (toZ w64 first) n solstices newmoons zhongqi before old at suis₀ months₀ kept₀ place j from copied years suis months kept
 
 abbrev μ-loop : tie.MeasureT-loop
-μ-loop leap sunstart sun moonstart moon zone suns moons first n solstices newmoons zhongqi before old at suis₀ months₀ kept₀ place j₀ from₀ copied₀ years₀ suis months kept j from copied years =
-    ?
+μ-loop leap sunstart sun moonstart moon zone suns moons first n solstices newmoons zhongqi before old at suis₀ months₀ kept₀ place j₀ from₀ copied₀ years₀ suis months kept j from copied years = n - j
 
--- src/walk.rt:60:5
+abbrev called : lts.Claims
+called = (signed-reads.Asked, signed-reads.Learnt, add-reads.Asked, add-reads.Learnt, year-again-reads.Asked, year-again-reads.Learnt, count-reads.Asked, count-reads.Learnt)
+
+abbrev Start : Type 0
+Start = lts.Start called reads.Pre reads.Post Inv-loop μ-loop
+
+abbrev Loop : Type 0
+Loop = lts.At-loop called reads.Pre reads.Post Inv-loop μ-loop
+
+abbrev inputs-of : Start → Inputs
+inputs-of start = let a = start .args in inputs (a .leap .now) (a .sunstart .0) (a .sun .now) (a .moonstart .0) (a .moon .now)
+
+-- ---- what the loop holds
+at-turn : (c : Loop) → (let a = c .before .args in AtAgain (inputs-of (c .before)) (a .zone) (a .suns) (a .moons) (a .first) (a .n) (a .solstices .now) (a .newmoons .now) (a .zhongqi .now) (a .before .now) (a .old .now) (a .at) (a .suis .now) (a .months .now) (a .kept .now) (a .places .solstice) (c .loop .j) (c .loop .from) (c .loop .copied) (c .loop .years) (c .loop .suis) (c .loop .months) (c .loop .kept))
+at-turn c = rw (toZ-ofZ (c .before .fits .zone), toZ-ofZ (c .before .fits .first)) at (c .loop .inv)
+
+-- the numbers of the turn are small
+few : (c : Loop) → (c .before .args .n ≤ 128) × ((c .loop .from ≤ 13 * c .loop .j) × (c .loop .j ≤ c .before .args .n))
+few c = let t = at-turn c in (t .walks .begun .few-years, (t .walked .reached .few, t .in-turn))
+
+copied-few : (c : Loop) → (c .loop .copied ≤ 13 * c .loop .j) × (c .before .args .at ≤ 20000)
+copied-few c = let t = at-turn c in (omega (arith, t .is-copied, t .copies .few-before (c .loop .j) (t .in-turn)), t .copies .small)
+
+years-few : (c : Loop) → c .loop .years ≤ c .loop .j
+years-few c = let t = at-turn c in let a = c .before .args in omega (arith, t .is-years, listed-few (inputs-of (c .before)) (a .zone) (a .first) (a .before .now) (c .loop .j))
+
+-- year j
+year-small : (start : Start) → Within 2500 (start .args .first)
+year-small start = Kept.year-small (start .args .first) (start .pre .0 .begun .begins .year-in-range)
+
+at-signed : (c : lts.After-signed called reads.Pre reads.Post Inv-loop μ-loop) → toZ w64 (ofZ w64 (c .signed .result)) ≡ pos (c .before .before .loop .j)
+at-signed c = back (c .signed .result) (c .signed .ok) ∙ c .signed .ensures
+
+at-added : (c : lts.After-add called reads.Pre reads.Post Inv-loop μ-loop) → toZ w64 (ofZ w64 (c .add .result)) ≡ c .before .before .before .before .args .first +ℤ pos (c .before .before .before .loop .j)
+at-added c = back (c .add .result) (c .add .ok) ∙ (rw (toZ-ofZ (c .before .before .before .before .fits .first), at-signed (c .before)) at (c .add .ensures))
+
+-- the days ahead of it
+solstices-there : (c : Loop) → c .loop .j < c .before .args .n → c .loop .j ≤ length (c .before .args .solstices .now)
+solstices-there c h = let a = c .before .args in let t = at-turn c in solstices-reach (inputs-of (c .before)) (a .zone) (a .suns) (a .moons) (t .places) (a .first) (a .n) (t .walks .begun) (t .walked .reached) h (t .walks)
+
+moons-there : (c : Loop) → c .loop .j < c .before .args .n → c .loop .from ≤ length (c .before .args .newmoons .now)
+moons-there c h = let a = c .before .args in let t = at-turn c in moons-reach (inputs-of (c .before)) (a .zone) (a .suns) (a .moons) (t .places) (a .first) (a .n) (t .walks .begun) (t .walked .reached) h (t .walks)
+
+ahead-of : (c : Loop) → c .loop .j < c .before .args .n → (let a = c .before .args in YearAhead (inputs-of (c .before)) (a .zone) (a .suns) (a .moons) (a .first +ℤ pos (c .loop .j)) (a .places .solstice + c .loop .j) (drop (c .loop .j) (a .solstices .now)) (drop (c .loop .from) (a .newmoons .now)) (take 13 (drop (13 * c .loop .j) (a .zhongqi .now))))
+ahead-of c h =
+    let a = c .before .args in
+    let t = at-turn c in
+    rw (t .is-place) at (year-ahead (inputs-of (c .before)) (a .zone) (a .suns) (a .moons) (t .places) (a .first) (a .n) (t .walks .begun) (t .walked .reached) h (t .walks))
+
+-- the rest of a list, as a part of it
+rest : (l : List ℤ) (k : ℕ) → take (length l - k) (drop k l) ≡ drop k l
+rest l k = take-all (length l - k) (drop k l) (omega (arith, length-drop k l))
+
+-- the words of the old days of year j, and where its months stand in the old file
+abbrev before-of : Loop → List ℤ
+before-of c = take 28 (drop (28 * c .loop .j) (c .before .args .before .now))
+
+abbrev place-of : Loop → ℕ
+place-of c = c .before .args .at + 9 * c .loop .copied
+
+abbrev days-of : Loop → Verdict SuiDays
+days-of c = suiDays (inputs-of (c .before)) (c .before .args .zone) (c .before .args .first +ℤ pos (c .loop .j))
+
+abbrev year-of : Loop → ℤ
+year-of c = c .before .args .first +ℤ pos (c .loop .j)
+
+kept-copies : (c : Loop) → c .loop .j < c .before .args .n → Kept-by (year-of c) (before-of c) (c .before .args .old .now) (place-of c) (days-of c)
+kept-copies c h days e s =
+    let t = at-turn c in
+    let a = c .before .args in
+    let kept = rw (← t .is-copied) at (t .copies .sui-kept (c .loop .j) h days e s) in
+    (kept .0, (kept .1 .0, kept .1 .1 .0))
+
+bound : (c : Loop) → c .loop .j < c .before .args .n → (days : SuiDays) → days-of c ≡ answered days → sameWords (before-of c) (daysWords days) ≡ true → place-of c + 9 * days .months ≤ length (c .before .args .old .now)
+bound c h days e s = let t = at-turn c in (rw (← t .is-copied) at (t .copies .sui-kept (c .loop .j) h days e s)) .1 .1 .1
+
+-- the room for it
+rooms : (c : Loop) → (length (c .loop .suis) ≡ length (c .before .args .suis .now)) × ((length (c .loop .months) ≡ length (c .before .args .months .now)) × (length (c .loop .kept) ≡ length (c .before .args .kept .now)))
+rooms c =
+    let a = c .before .args in
+    let t = at-turn c in
+    let i = inputs-of (c .before) in (
+      sui-room i (a .zone) (a .suns) (a .moons) (t .places) (a .first) (a .n) (t .walks .begun) (a .suis .now) (a .months .now) (t .walked) (c .before .pre .1 .1 .0) (t .in-turn),
+      (
+        month-room i (a .zone) (a .suns) (a .moons) (t .places) (a .first) (a .n) (t .walks .begun) (a .suis .now) (a .months .now) (t .walked) (c .before .pre .1 .1 .1 .0) (t .in-turn),
+        ap length (t .listed) ∙ placed-length (a .kept .now) (listedAgain i (a .zone) (a .first) (a .before .now) (c .loop .j)) 0 (omega (arith, listed-few i (a .zone) (a .first) (a .before .now) (c .loop .j), t .in-turn, c .before .pre .1 .1 .1 .1)),
+      ),
+    )
+
+-- ---- once the sui of year j is put, or refused
+abbrev Put : Type 0
+Put = lts.After-year-again called reads.Pre reads.Post Inv-loop μ-loop
+
+abbrev loop-of : Put → Loop
+loop-of c = c .before .before .before .before .before .before .before .before .before .before .before
+
+abbrev taken-of : (c : Put) → loop-of c .loop .j < loop-of c .before .args .n
+taken-of c = c .before .before .before .before .before .before .before .before .before .before .loop-test .taken
+
+-- the sui of year j
+abbrev sui-of : Loop → Verdict Sui
+sui-of c = suiOfYear (inputs-of (c .before)) (c .before .args .zone) (year-of c)
+
+twenty-eight : (j : ℕ) → 28 * j + 28 - 28 * j ≡ 28
+twenty-eight j = omega arith
+
+says : (c : Put) → _
+says c = rw (toZ-ofZ (loop-of c .before .fits .zone), at-added (c .before .before .before .before .before .before .before .before), twenty-eight (loop-of c .loop .j)) at (c .year-again .ensures)
+
+-- ---- the needs
+
 loop-holds : tie.Need-loop-holds Inv-loop μ-loop
-loop-holds c = ?
+loop-holds c =
+    let w = c .pre .0 in
+    let a = c .args in
+    rw (toZ-ofZ (c .fits .zone), toZ-ofZ (c .fits .first))
+    (record {
+      places = a .places;
+      walks = w;
+      is-place = refl;
+      copies = c .pre .1 .0;
+      walked = walk-starts (inputs-of c) (a .zone) (a .suns) (a .moons) (a .places) (a .first) (a .n) (w .begun) (a .suis .now) (a .months .now);
+      is-copied = sym (c .pre .1 .0 .starts);
+      is-years = none-counted (inputs-of c) (a .zone) (a .first) (a .before .now);
+      listed = none-listed (inputs-of c) (a .zone) (a .first) (a .before .now) (a .kept .now);
+      in-turn = omega arith;
+    })
 
--- src/walk.rt:61:31
 signed-requires : tie.Need-signed-requires Inv-loop μ-loop
-signed-requires c κs = ?
+signed-requires c κs = omega (arith, few (c .before))
 
--- src/walk.rt:61:13
 add-requires : tie.Need-add-requires Inv-loop μ-loop
-add-requires c κs = ?
+add-requires c κs = let start = c .before .before .before in let small = year-small start in rw (toZ-ofZ (start .fits .first), at-signed c) (fits< (search bounds) (omega (arith, few (c .before .before))))
 
--- src/walk.rt:72:13
 add-year-again : tie.Need-add-year-again Inv-loop μ-loop
-add-year-again c = ?
+add-year-again c =
+    let loop = c .before .before .before in
+    let t = at-turn loop in
+    record { fits = omega (arith, few loop, t .is-place, t .walks .solstices-ahead .inside, turns-few (sun (inputs-of (loop .before))) (t .walks .begun .is-known .sun-ready .is-accepted)) }
 
--- src/walk.rt:73:13
 mul-year-again : tie.Need-mul-year-again Inv-loop μ-loop
-mul-year-again c = ?
+mul-year-again c = record { fits = omega (arith, few (c .before .before .before)) }
 
--- src/walk.rt:73:13
 sub-year-again : tie.Need-sub-year-again Inv-loop μ-loop
-sub-year-again c = ?
+sub-year-again c = solstices-there (c .before .before .before) (c .before .before .loop-test .taken)
 
--- src/walk.rt:73:13
 part-year-again-start : tie.Need-part-year-again-start Inv-loop μ-loop
-part-year-again-start c = ?
+part-year-again-start c = solstices-there (c .before .before .before) (c .before .before .loop-test .taken)
 
--- src/walk.rt:73:13
 part-year-again-end : tie.Need-part-year-again-end Inv-loop μ-loop
-part-year-again-end c = ?
+part-year-again-end c = omega arith
 
--- src/walk.rt:74:13
 mul-year-again-2 : tie.Need-mul-year-again-2 Inv-loop μ-loop
-mul-year-again-2 c = ?
+mul-year-again-2 c = record { fits = omega (arith, few (c .before .before .before .before)) }
 
--- src/walk.rt:74:13
 sub-year-again-2 : tie.Need-sub-year-again-2 Inv-loop μ-loop
-sub-year-again-2 c = ?
+sub-year-again-2 c = moons-there (c .before .before .before .before) (c .before .before .before .loop-test .taken)
 
--- src/walk.rt:74:13
 part-year-again-start-2 : tie.Need-part-year-again-start-2 Inv-loop μ-loop
-part-year-again-start-2 c = ?
+part-year-again-start-2 c = moons-there (c .before .before .before .before) (c .before .before .before .loop-test .taken)
 
--- src/walk.rt:74:13
 part-year-again-end-2 : tie.Need-part-year-again-end-2 Inv-loop μ-loop
-part-year-again-end-2 c = ?
+part-year-again-end-2 c = omega arith
 
--- src/walk.rt:75:22
 mul-year-again-3 : tie.Need-mul-year-again-3 Inv-loop μ-loop
-mul-year-again-3 c = ?
+mul-year-again-3 c = record { fits = omega (arith, few (c .before .before .before .before .before)) }
 
--- src/walk.rt:75:30
 mul-year-again-4 : tie.Need-mul-year-again-4 Inv-loop μ-loop
-mul-year-again-4 c = ?
+mul-year-again-4 c = record { fits = omega (arith, few (c .before .before .before .before .before)) }
 
--- src/walk.rt:75:30
 add-year-again-2 : tie.Need-add-year-again-2 Inv-loop μ-loop
-add-year-again-2 c = ?
+add-year-again-2 c = record { fits = omega (arith, few (c .before .before .before .before .before)) }
 
--- src/walk.rt:75:13
 mul-year-again-5 : tie.Need-mul-year-again-5 Inv-loop μ-loop
-mul-year-again-5 c = ?
+mul-year-again-5 c = record { fits = omega (arith, few (c .before .before .before .before .before)) }
 
--- src/walk.rt:75:13
 sub-year-again-3 : tie.Need-sub-year-again-3 Inv-loop μ-loop
-sub-year-again-3 c = ?
+sub-year-again-3 c = omega arith
 
--- src/walk.rt:75:13
 part-year-again-start-3 : tie.Need-part-year-again-start-3 Inv-loop μ-loop
-part-year-again-start-3 c = ?
+part-year-again-start-3 c = omega arith
 
--- src/walk.rt:75:13
 part-year-again-end-3 : tie.Need-part-year-again-end-3 Inv-loop μ-loop
-part-year-again-end-3 c = ?
+part-year-again-end-3 c = let loop = c .before .before .before .before .before in omega (arith, c .before .before .before .before .loop-test .taken, at-turn loop .walks .zhongqi-room)
 
--- src/walk.rt:76:21
 mul-year-again-6 : tie.Need-mul-year-again-6 Inv-loop μ-loop
-mul-year-again-6 c = ?
+mul-year-again-6 c = record { fits = omega (arith, few (c .before .before .before .before .before .before)) }
 
--- src/walk.rt:76:29
 mul-year-again-7 : tie.Need-mul-year-again-7 Inv-loop μ-loop
-mul-year-again-7 c = ?
+mul-year-again-7 c = record { fits = omega (arith, few (c .before .before .before .before .before .before)) }
 
--- src/walk.rt:76:29
 add-year-again-3 : tie.Need-add-year-again-3 Inv-loop μ-loop
-add-year-again-3 c = ?
+add-year-again-3 c = record { fits = omega (arith, few (c .before .before .before .before .before .before)) }
 
--- src/walk.rt:76:13
 mul-year-again-8 : tie.Need-mul-year-again-8 Inv-loop μ-loop
-mul-year-again-8 c = ?
+mul-year-again-8 c = record { fits = omega (arith, few (c .before .before .before .before .before .before)) }
 
--- src/walk.rt:76:13
 sub-year-again-4 : tie.Need-sub-year-again-4 Inv-loop μ-loop
-sub-year-again-4 c = ?
+sub-year-again-4 c = omega arith
 
--- src/walk.rt:76:13
 part-year-again-start-4 : tie.Need-part-year-again-start-4 Inv-loop μ-loop
-part-year-again-start-4 c = ?
+part-year-again-start-4 c = omega arith
 
--- src/walk.rt:76:13
 part-year-again-end-4 : tie.Need-part-year-again-end-4 Inv-loop μ-loop
-part-year-again-end-4 c = ?
+part-year-again-end-4 c = let loop = c .before .before .before .before .before .before in omega (arith, c .before .before .before .before .before .loop-test .taken, at-turn loop .copies .room)
 
--- src/walk.rt:78:18
 mul-year-again-9 : tie.Need-mul-year-again-9 Inv-loop μ-loop
-mul-year-again-9 c = ?
+mul-year-again-9 c = record { fits = omega (arith, few (c .before .before .before .before .before .before .before), copied-few (c .before .before .before .before .before .before .before)) }
 
--- src/walk.rt:78:13
 add-year-again-4 : tie.Need-add-year-again-4 Inv-loop μ-loop
-add-year-again-4 c = ?
+add-year-again-4 c = record { fits = omega (arith, few (c .before .before .before .before .before .before .before), copied-few (c .before .before .before .before .before .before .before)) }
 
--- src/walk.rt:62:13
 year-again-requires : tie.Need-year-again-requires Inv-loop μ-loop
-year-again-requires c κs = ?
+year-again-requires c κs =
+    let turn = c .before .before .before .before .before .before .before .before .before in
+    let loop = turn .before in
+    let a = loop .before .args in
+    let t = at-turn loop in
+    let taken = turn .loop-test .taken in
+    let thirteen : 13 * loop .loop .j + 13 - 13 * loop .loop .j ≡ 13 = omega arith in
+    rw (toZ-ofZ (loop .before .fits .zone), at-added (c .before .before .before .before .before .before .before), rest (a .solstices .now) (loop .loop .j), rest (a .newmoons .now) (loop .loop .from), thirteen, twenty-eight (loop .loop .j))
+    (ahead-of loop taken, ((λ days e s. bound loop taken days e s), (omega (arith, few loop, taken), (omega (arith, few loop, taken), (omega (arith, few loop, taken, rooms loop, loop .before .pre .1 .1 .0), (omega (arith, few loop, taken, rooms loop, loop .before .pre .1 .1 .1 .0), omega (arith, years-few loop, taken, rooms loop, loop .before .pre .1 .1 .1 .1)))))))
 
--- src/walk.rt:87:34
 enum-known-put : tie.Need-enum-known-put Inv-loop μ-loop
 enum-known-put c = ?
 
--- src/walk.rt:88:17
 same-length : tie.Need-same-length Inv-loop μ-loop
 same-length c = ?
 
--- src/walk.rt:88:17
 same-length-2 : tie.Need-same-length-2 Inv-loop μ-loop
 same-length-2 c = ?
 
--- src/walk.rt:88:17
 same-length-3 : tie.Need-same-length-3 Inv-loop μ-loop
 same-length-3 c = ?
 
--- src/walk.rt:88:17
 returns : tie.Need-returns Inv-loop μ-loop
 returns c = ?
 
--- src/walk.rt:90:32
 enum-known-put-2 : tie.Need-enum-known-put-2 Inv-loop μ-loop
 enum-known-put-2 c = ?
 
--- src/walk.rt:91:17
 add-from : tie.Need-add-from Inv-loop μ-loop
 add-from c = ?
 
--- src/walk.rt:93:40
 mul-count : tie.Need-mul-count Inv-loop μ-loop
 mul-count c = ?
 
--- src/walk.rt:93:33
 mul-count-2 : tie.Need-mul-count-2 Inv-loop μ-loop
 mul-count-2 c = ?
 
--- src/walk.rt:93:33
 shared-slice-copy-out-count : tie.Need-shared-slice-copy-out-count Inv-loop μ-loop
 shared-slice-copy-out-count c = ?
 
--- src/walk.rt:93:27
 count-requires : tie.Need-count-requires Inv-loop μ-loop
 count-requires c κs = ?
 
--- src/walk.rt:93:17
 add-copied : tie.Need-add-copied Inv-loop μ-loop
 add-copied c = ?
 
--- src/walk.rt:94:17
 add-j : tie.Need-add-j Inv-loop μ-loop
 add-j c = ?
 
--- src/walk.rt:60:5
 loop-less : tie.Need-loop-less Inv-loop μ-loop
 loop-less c = ?
 
--- src/walk.rt:60:5
 loop-again : tie.Need-loop-again Inv-loop μ-loop
 loop-again c = ?
 
--- src/walk.rt:23:1
 same-length-4 : tie.Need-same-length-4 Inv-loop μ-loop
 same-length-4 c = ?
 
--- src/walk.rt:23:1
 same-length-5 : tie.Need-same-length-5 Inv-loop μ-loop
 same-length-5 c = ?
 
--- src/walk.rt:23:1
 same-length-6 : tie.Need-same-length-6 Inv-loop μ-loop
 same-length-6 c = ?
 
--- src/walk.rt:23:1
 returns-2 : tie.Need-returns-2 Inv-loop μ-loop
 returns-2 c = ?
 
