@@ -1,2 +1,3 @@
 pub mod Rebuild
 pub mod theory
+pub mod Theorems

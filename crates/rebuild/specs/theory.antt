@@ -1,3 +1,6 @@
 pub mod Alike
 pub mod Old
 pub mod Records
+pub mod Given
+pub mod Kept
+pub mod Listed
