@@ -1,6 +1,6 @@
 -- The rebuild over given builds and given days, on both sides of its bounds and in the order of its refusals, each a computed fact, and all of them checked at once.
 -- Assumes nothing.
-use mathlib.Core.Bool.{Bool, true, false, cond, not, _&&_}
+use mathlib.Core.Bool.{Bool, false, cond, not, _&&_}
 use mathlib.Core.List.{List, [], _∷_, _++_}
 use Prim.Native.Nat.{ℕ}
 use lib.Dec.{T, eqb}
@@ -21,7 +21,7 @@ use Rattle.months.specs.declared.Sui.{Sui}
 use Rattle.months.specs.declared.SuiDays.{SuiDays}
 use Rattle.months.specs.Handles.{numberAt, leapMark, handle, handleAt, monthOf}
 use Rattle.months.specs.Months.{monthLength, isWithin, zhongqiIn, zhongqiOf, without, firstWithout, leapMonth, monthAt, numbered, goodLength, badMonth, firstBadMonth, lengthsJudged, noneWithout, leapMonthJudged, suiOf}
-use Rattle.content.specs.Content.{Content, content, monthsBefore, followsYear, goodSui, leapsBefore, goodHandle, goodStart, goodDays, goodMonth, goodMonths, goodSuiMonths, wholeSuis, lawful}
+use Rattle.content.specs.Content.{content, monthsBefore, followsYear, goodSui, leapsBefore, goodHandle, goodStart, goodDays, goodMonth, goodMonths, goodSuiMonths, wholeSuis, lawful}
 use Rattle.almanac.specs.Fields.{times, numbersIn, bytesFor}
 use Rattle.almanac.specs.Layout.{endAt, bytesOf, countsOf, contentAt, contentOf, fileOf}
 use Rattle.build.specs.Build.{monthsIn, wordsOf}

@@ -5,7 +5,7 @@ use mathlib.Core.Path.{_≡_, refl, sym, ap, ap₂, subst, _∙_}
 use mathlib.Core.Bool.{Bool, true, false, cond}
 use mathlib.Core.List.{List, [], _++_}
 use mathlib.Core.Logic.{_↔_}
-use Prim.Native.Nat.{ℕ, zero, suc, _≤_, _<_}
+use Prim.Native.Nat.{ℕ, zero, suc, _+_, _*_, _≤_, _<_}
 use native.Mathlib.Omega.{arith}
 use lib.IntN.{ℤ, pos, natAbs, _+ℤ_}
 use lib.ListN.{length, getD, take}
@@ -21,7 +21,12 @@ use Rattle.months.specs.declared.Sui.{Sui}
 use Rattle.months.specs.Months.{suiOf}
 use Rattle.months.specs.Answers.{noSui}
 use Rattle.sui.specs.Sui.{suiDays, suiOfYear}
-use Rattle.build.specs.Build.{monthsIn, wordsOf, monthWords, suisFrom, bytesBuilt}
+use Rattle.content.specs.Content.{Content, entryCount, suiCount, monthsBefore}
+use Rattle.almanac.specs.Fields.{times, numbersIn}
+use Rattle.almanac.specs.Layout.{monthFields, monthsAt, fileOf}
+use Rattle.almanac.specs.theory.Part.{months-in-file}
+use Rattle.build.specs.Build.{monthsIn, wordsOf, monthWords, contentFor, contentBy, suisFrom, bytesBuilt}
+use Rattle.build.specs.Theorems.{built-is-read}
 use Rattle.build.specs.theory.Records.{suiAt}
 use Rattle.build.specs.theory.Words.{month-words-snoc}
 use Rattle.build.specs.theory.Years.{suis-are}
@@ -31,6 +36,7 @@ use Rattle.rebuild.specs.Rebuild.{Years, NewFile, newFileBy, rebuiltBy, 
 use Rattle.rebuild.specs.theory.Given.{Given, given-tells, given-when, not-given, built-is-given, count-built, room-enough}
 use Rattle.rebuild.specs.theory.Kept.{fourteen-moons, same-days, both-found, kept-when}
 use Rattle.rebuild.specs.theory.Listed.{StandsIn, KeptYear, years-of}
+use Rattle.rebuild.specs.theory.Records.{words-in-turn, fewer-found, own-words, words-before}
 
 -- ---- "a file of the same suis, equal byte for byte to a fresh build"
 pub record Fresh (old new : Inputs) (zone : ℤ) (file : List ℕ) (room : ℕ) (n : NewFile) : Type 0 where
@@ -162,6 +168,37 @@ taken-is-fresh old new zone first n {olds} {news} e f =
     let same : (j : ℕ) → j < n → keeps j ≡ true → wordsAt olds j ≡ wordsAt news j = λ j h k.
     ap (λ (s : Sui). wordsOf (monthsIn s)) (answers-apart (sym (o .each j h noSui) ∙ kept-is-same old new zone (first +ℤ pos j) k ∙ w .each j h noSui)) in
     sym (only-kept-records-are-taken keeps (wordsAt olds) (wordsAt news) (wordsAt news) n same ∙ taken-are-made keeps news n (omega (arith, w .all)) ∙ ap monthWords (take-all n news (omega (arith, w .all))))
+
+-- the old words of sui j are the numbers that stand at its place in the old file: from its months on, behind nine bytes for each month of the suis before it
+pub record OldRecords (old : Inputs) (zone : ℤ) (file : List ℕ) (y : Years) : Type 0 where
+  pub suis : List Sui
+  pub are-suis : suisFrom old zone (y .first) (y .count) ≡ answered suis
+  pub content : Content
+  pub is-read : fileOf file ≡ answered content
+  pub in-file : (j : ℕ) → j < y .count → numbersIn (times (suiAt suis j .count) monthFields) file (monthsAt (entryCount content) (suiCount content) + 4 + 9 * monthsBefore (content .suis) j) ≡ wordsAt suis j
+
+pub old-records-in-file : (old new : Inputs) (zone : ℤ) → Within 1000 zone → (file : List ℕ) {y : Years} → given old new zone file ≡ answered y → OldRecords old zone file y
+unfolding contentBy
+old-records-in-file old new zone small file {y} e =
+    let first = y .first in
+    let n = y .count in
+    let b = built-is-read old zone first (pos n) mostBytes (given-tells (oldBuild old zone) file e .is-built) small in
+    let c = b .content in
+    let found = then-answered (suisFrom old zone first n) (λ suis. answered (contentFor (old .leap) first suis)) c (b .is-content) in
+    let suis = found .0 in
+    let is : contentFor (old .leap) first suis ≡ c = answers-apart (found .2) in
+    record {
+      suis = suis;
+      are-suis = found .1;
+      content = c;
+      is-read = b .is-read;
+      in-file = λ j h.
+          let own = suis-are old zone first n (found .1) .each j h noSui in
+          let done = fewer-found old zone first j n (found .1) (omega arith) in
+          let turn = words-in-turn old zone first j n (found .1) (done .1) own h in
+          let before = words-before old zone first n (found .1) j (done .1) (omega arith) ∙ ap (λ (c : Content). 3 * monthsBefore (c .suis) j) is in
+          months-in-file file c (b .is-read) (monthWords (done .0)) (wordsAt suis j) (turn .0) (ap (λ (c : Content). c .months) (sym is) ∙ turn .1) (monthsBefore (c .suis) j) (suiAt suis j .count) before (own-words old zone first j own) .0;
+    }
 
 -- ---- one result: any two answers that the rebuild may give are the same, and so is what each lent place holds
 rebuilt-apart : OneToOne paperRebuilt
