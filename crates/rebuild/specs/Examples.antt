@@ -2,7 +2,7 @@
 -- Assumes nothing.
 use mathlib.Core.Bool.{Bool, false, cond, not, _&&_}
 use mathlib.Core.List.{List, [], _∷_, _++_}
-use Prim.Native.Nat.{ℕ}
+use Prim.Native.Nat.{ℕ, _+_}
 use lib.Dec.{T, eqb}
 use lib.IntN.{ℤ, pos, _+ℤ_}
 use lib.ListN.{length, set, take}
@@ -27,6 +27,7 @@ use Rattle.almanac.specs.Layout.{endAt, bytesOf, countsOf, contentAt, contentOf
 use Rattle.build.specs.Build.{monthsIn, wordsOf}
 use Rattle.rebuild.specs.declared.Rebuilt.{Rebuilt}
 use Rattle.rebuild.specs.Rebuild.{Years, givenBy, daysWords, sameDays, isKept, keptBy, NewFile, newFileBy, rebuiltBy, mostBytes, counted, new-bytes, kept-years}
+use Rattle.rebuild.specs.Theorems.{taken}
 
 -- ---- how the examples are written
 -- a lawful file (`almanac` has the rules): months one after another from a first day, handle and length of each
@@ -110,12 +111,12 @@ abbrev given : Verdict Years
 given = answered (record { first = pos 2001; count = 3 })
 
 unfoldable pub examples : List Bool
-unfolding every countOf floorMod firstFrom firstBelow hasDate firstEntry nextEntry goodEntry wholePairs leapLawful numberAt leapMark handle handleAt monthOf monthLength isWithin zhongqiIn zhongqiOf without firstWithout leapMonth monthAt numbered goodLength badMonth firstBadMonth lengthsJudged noneWithout leapMonthJudged suiOf monthsBefore followsYear goodSui leapsBefore goodHandle goodStart goodDays goodMonth goodMonths goodSuiMonths wholeSuis lawful times numbersIn bytesFor bytesOf countsOf contentAt contentOf fileOf wordsOf givenBy daysWords sameDays keptBy newFileBy rebuiltBy
+unfolding every countOf floorMod firstFrom firstBelow hasDate firstEntry nextEntry goodEntry wholePairs leapLawful numberAt leapMark handle handleAt monthOf monthLength isWithin zhongqiIn zhongqiOf without firstWithout leapMonth monthAt numbered goodLength badMonth firstBadMonth lengthsJudged noneWithout leapMonthJudged suiOf monthsBefore followsYear goodSui leapsBefore goodHandle goodStart goodDays goodMonth goodMonths goodSuiMonths wholeSuis lawful times numbersIn bytesFor bytesOf countsOf contentAt contentOf fileOf wordsOf givenBy daysWords sameDays keptBy newFileBy rebuiltBy taken
 examples =
     -- the old file: what the build gives for the years that stand in it
     isYears (givenBy (gives (one (pos 29)) (pos 2001) (pos 1)) (one (pos 29))) (pos 2001) 1
     ∷ isYears (givenBy (gives two (pos 2001) (pos 2)) two) (pos 2001) 2
-    -- for other years it is not asked
+    -- a build that gives these bytes for other years alone
     ∷ isRefused (givenBy (gives (one (pos 29)) (pos 2000) (pos 1)) (one (pos 29))) 13
     ∷ isRefused (givenBy (gives two (pos 2001) (pos 1)) two) 13
     -- a lawful file that the build does not give: another last month, another offset, the first of its two suis
@@ -149,7 +150,7 @@ examples =
     ∷ not (keeps thirteen (days 13 moons (set zhongqi 0 (pos 21))))
     ∷ not (keeps thirteen (days 13 moons (set zhongqi 1 (pos 49))))
     ∷ not (keeps thirteen (days 13 moons (set zhongqi 12 (pos 384))))
-    -- (the one between moves inside its month: the records are the same, and the sui is not kept; a day later than its month, and they are others)
+    -- (the one between moved inside its month: the records are the same, and yet the sui is not kept; out of its month they are others)
     ∷ eqb (length (records thirteen)) 39
     ∷ sameWords (records (days 13 moons (set zhongqi 1 (pos 49)))) (records thirteen)
     ∷ not (sameWords (records (days 13 moons (set zhongqi 10 (pos 325)))) (records thirteen))
@@ -187,6 +188,9 @@ examples =
     ∷ isRefusedAt (rebuiltBy given (λ first count. refused 3 7) allBut2002 0) 3 7
     ∷ isRefused (rebuiltBy given (refuses 9) allBut2002 0) 9
     ∷ isRefused (rebuiltBy given (refuses 12) none 0) 12
+    -- the months' words: of a sui that is kept the old ones, of the others those that are made, in turn
+    ∷ sameWords (taken (eqb 1) (λ j. pos j ∷ []) (λ j. pos (100 + j) ∷ pos (200 + j) ∷ []) 3) (pos 100 ∷ pos 200 ∷ pos 1 ∷ pos 102 ∷ pos 202 ∷ [])
+    ∷ sameWords (taken (eqb 1) (λ j. pos j ∷ []) (λ j. pos (100 + j) ∷ pos (200 + j) ∷ []) 1) (pos 100 ∷ pos 200 ∷ [])
     -- how many bytes and years are answered; what the lent places hold: those at the front, and behind them what was there; a refusal leaves both
     ∷ isCounted (counted (newFileBy (answered file) (pos 2001 ∷ pos 2003 ∷ []) 2)) 3 2
     ∷ isRefused (counted (newFileBy (answered file) (pos 2001 ∷ pos 2003 ∷ []) 1)) 12

@@ -7,11 +7,11 @@ use mathlib.Core.List.{List, [], _++_}
 use mathlib.Core.Logic.{_↔_}
 use Prim.Native.Nat.{ℕ, zero, suc, _+_, _*_, _≤_, _<_}
 use native.Mathlib.Omega.{arith}
+use lib.Dec.{ltb}
 use lib.IntN.{ℤ, pos, natAbs, _+ℤ_}
 use lib.ListN.{length, getD, take}
 use lib.Seq.{take-suc, take-all}
 use lib.Signed.{_<ℤ_}
-use lib.Dec.{ltb}
 use Rattle.whole.specs.Ranges.{Within}
 use Rattle.refusals.specs.Verdict.{Verdict, answered, refused, OneToOne, then-answered, test-answered, answers-apart, answer-or-refusal, refusals-apart, one-result, one-content, _then_}
 use Rattle.refusals.specs.Lent.{writtenInto}
@@ -69,7 +69,11 @@ oldBuild old zone first count = bytesBuilt old zone first count mostBytes
 pub given-means : (old new : Inputs) (zone : ℤ) (file : List ℕ) (y : Years) → given old new zone file ≡ answered y ↔ Given (oldBuild old zone) file y
 given-means old new zone file y = (given-tells (oldBuild old zone) file, given-when (oldBuild old zone) file)
 
--- .. and what a build gives is lawful, of the years that it was asked for: a file is given exactly if the build of the old inputs gives it, for some years
+-- .. and what a build gives is lawful, of the years that it was asked for: these are the years of a file exactly if the build of the old inputs for them gives it ..
+pub given-years-exactly : (old new : Inputs) (zone : ℤ) → Within 1000 zone → (file : List ℕ) (y : Years) → given old new zone file ≡ answered y ↔ (bytesBuilt old zone (y .first) (pos (y .count)) mostBytes ≡ answered file)
+given-years-exactly old new zone small file y = (λ g. given-tells (oldBuild old zone) file g .is-built, λ b. built-is-given old zone (y .first) (pos (y .count)) b small)
+
+-- .. and a file is given exactly if that build gives it for some first year and count of suis
 pub given-exactly : (old new : Inputs) (zone : ℤ) → Within 1000 zone → (file : List ℕ) → ((y : Years) × (given old new zone file ≡ answered y)) ↔ ((first count : ℤ) × (bytesBuilt old zone first count mostBytes ≡ answered file))
 given-exactly old new zone small file = (
   λ g. (g .0 .first, pos (g .0 .count), given-tells (oldBuild old zone) file (g .1) .is-built),
@@ -134,11 +138,11 @@ taken keeps old made (suc n) = taken keeps old made n ++ cond (keeps n) (old n) 
 pub only-kept-records-are-taken : (keeps : ℕ → Bool) (old other made : ℕ → List ℤ) (n : ℕ) → ((j : ℕ) → j < n → keeps j ≡ true → old j ≡ other j) → taken keeps old made n ≡ taken keeps other made n
 unfolding taken
 only-kept-records-are-taken keeps old other made zero same = refl
-only-kept-records-are-taken keeps old other made (suc n) same = ap₂ (λ (a b : List ℤ). a ++ b) (only-kept-records-are-taken keeps old other made n (λ j h. same j (omega arith))) (here (keeps n) refl)
+only-kept-records-are-taken keeps old other made (suc n) same = go (only-kept-records-are-taken keeps old other made n (λ j h. same j (omega arith))) (keeps n) refl
   where
-    here : (t : Bool) → keeps n ≡ t → cond (keeps n) (old n) (made n) ≡ cond (keeps n) (other n) (made n)
-    here true e = rw e (same n (omega arith) e)
-    here false e = rw e
+    go : taken keeps old made n ≡ taken keeps other made n → (t : Bool) → keeps n ≡ t → taken keeps old made (suc n) ≡ taken keeps other made (suc n)
+    go before true e = rw e (ap₂ (λ (a b : List ℤ). a ++ b) before (same n (omega arith) e))
+    go before false e = rw e (ap (λ (a : List ℤ). a ++ made n) before)
 
 -- and the words that are taken are those of the fresh build
 abbrev pub wordsAt : List Sui → ℕ → List ℤ
