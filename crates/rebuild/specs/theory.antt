@@ -1,5 +1,8 @@
 pub mod Alike
 pub mod Records
+pub mod Given
+pub mod Kept
+pub mod Listed
 pub mod Again
 pub mod Putting
 pub mod Old
