@@ -1,6 +1,6 @@
 -- `rebuild::years::year_again` meets its contract. In the needs, `start` is the function's entry. Assumes nothing.
 use mathlib.Core.Path.{_≡_, refl, sym, ap, _∙_}
-use mathlib.Core.Bool.{Bool}
+use mathlib.Core.Bool.{Bool, true}
 use mathlib.Core.List.{List}
 use Prim.Native.Nat.{ℕ, _*_, _≤_}
 use native.Mathlib.Omega.{arith}
@@ -10,7 +10,7 @@ use Rattle.whole.specs.Evaluated.{sameWords}
 use Rattle.refusals.specs.Verdict.{Verdict, answered, refused}
 use Rattle.inputs.specs.Inputs.{Inputs, inputs}
 use Rattle.months.specs.declared.SuiDays.{SuiDays}
-use Rattle.months.specs.Months.{suiOf}
+use Rattle.months.specs.Months.{suiOf, twelveOrThirteen}
 use Rattle.months.specs.theory.Answered.{days-answered, days-refused}
 use Rattle.months.specs.theory.Kept.{year-small}
 use Rattle.months.specs.theory.Days.{found-twelve, found-small}
@@ -63,7 +63,7 @@ at-days c =
 at-found : (c : Told) → Found (inputs-of (start-of c)) (start-of c .args .zone) (start-of c .args .year) (days-of c)
 at-found c = let start = start-of c in days-found (inputs-of start) (start .args .zone) (start .args .year) (at-days c)
 
-twelve : (c : Told) → _
+twelve : (c : Told) → twelveOrThirteen (days-of c .months) ≡ true
 twelve c = let start = start-of c in let found = at-found c in found-twelve (newMoonDays (inputs-of start) (start .args .zone)) (zhongqiDays (inputs-of start) (start .args .zone) (found .first) (found .last)) (found .by-rule)
 
 -- whether they are the old ones
