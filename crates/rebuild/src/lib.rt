@@ -4,7 +4,7 @@ use refusals::Refusal;
 mod alike;
 mod days;
 mod walk;
-//mod writing;
+mod writing;
 mod years;
 
 // How many bytes the new file has, and how many years were listed.

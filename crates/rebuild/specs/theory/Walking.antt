@@ -125,3 +125,24 @@ years-end i zone first before n {suis} {from} {years} e c y =
 
     both : _≡_ {A = Again} (record { months = from; years = years }) (record { months = length (monthWords suis) / 3; years = length (listedAgain i zone first before n) })
     both = λ t. record { months = third t; years = y t }
+
+-- what the walk's answer says
+pub years-refused : (i : Inputs) (zone first : ℤ) (before : List ℤ) (n : ℕ) {number segment : ℕ} → refused number segment ≡ yearsAgain i zone first before n → suisFrom i zone first n ≡ refused number segment
+years-refused i zone first before n e = go (suisFrom i zone first n) e
+  where
+    go : (v : Verdict (List Sui)) {number segment : ℕ} → _≡_ {A = Verdict Again} (refused number segment) (v then λ suis. answered (record { months = length (monthWords suis) / 3; years = length (listedAgain i zone first before n) })) → v ≡ refused number segment
+    go (answered suis) e = answer-or-refusal (sym e)
+    go (refused number segment) e = cc
+
+pub record YearsFound (i : Inputs) (zone first : ℤ) (before : List ℤ) (n : ℕ) (a : Again) : Type 0 where
+  pub suis : List Sui
+  pub found : suisFrom i zone first n ≡ answered suis
+  pub so-many-months : length (monthWords suis) / 3 ≡ a .months
+  pub so-many-years : length (listedAgain i zone first before n) ≡ a .years
+
+pub years-found : (i : Inputs) (zone first : ℤ) (before : List ℤ) (n : ℕ) {a : Again} → answered a ≡ yearsAgain i zone first before n → YearsFound i zone first before n a
+years-found i zone first before n {a} e = go (suisFrom i zone first n) refl e
+  where
+    go : (v : Verdict (List Sui)) → suisFrom i zone first n ≡ v → answered a ≡ (v then λ suis. answered (record { months = length (monthWords suis) / 3; years = length (listedAgain i zone first before n) })) → YearsFound i zone first before n a
+    go (answered suis) q e = let same = answers-apart e in record { suis = suis; found = q; so-many-months = sym (ap (λ (x : Again). x .months) same); so-many-years = sym (ap (λ (x : Again). x .years) same) }
+    go (refused number segment) q e = answer-or-refusal e
