@@ -7,3 +7,4 @@ pub mod Again
 pub mod Putting
 pub mod Old
 pub mod Walking
+pub mod Copied
