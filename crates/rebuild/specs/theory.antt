@@ -8,3 +8,4 @@ pub mod Putting
 pub mod Old
 pub mod Walking
 pub mod Copied
+pub mod Judging
