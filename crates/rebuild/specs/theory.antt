@@ -8,3 +8,5 @@ pub mod Putting
 pub mod Old
 pub mod Walking
 pub mod Written
+pub mod Copied
+pub mod Judging

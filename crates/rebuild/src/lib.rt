@@ -3,6 +3,7 @@ use refusals::Refusal;
 
 mod alike;
 mod days;
+mod old;
 mod walk;
 mod writing;
 mod years;

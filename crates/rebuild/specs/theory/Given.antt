@@ -28,7 +28,7 @@ use Rattle.rebuild.specs.Rebuild.{Years, yearsIn, isFile, givenBy, mostB
 use Rattle.rebuild.specs.theory.Alike.{bytes-are, bytes-alike}
 
 -- ---- a build that gave these bytes
-is-file : (v : Verdict (List ℕ)) (file : List ℕ) → isFile v file ≡ true → v ≡ answered file
+pub is-file : (v : Verdict (List ℕ)) (file : List ℕ) → isFile v file ≡ true → v ≡ answered file
 is-file (answered bytes) file e = ap answered (bytes-are bytes file e)
 is-file (refused number segment) file e = let z : _≡_ {A = ℕ} 0 1 = cc in absurd (omega arith)
 
