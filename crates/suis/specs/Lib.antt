@@ -1,2 +1,3 @@
 pub mod Ahead
+pub mod Again
 pub mod theory
