@@ -1,16 +1,18 @@
 -- When two lists of words are the same, by the test that says so. Assumes nothing.
 use mathlib.Core.Path.{_≡_, refl, sym, ap, ap₂, _∙_}
-use mathlib.Core.Bool.{Bool, true, false, _&&_}
+use mathlib.Core.Bool.{Bool, true, false}
 use mathlib.Core.List.{List, [], _∷_, _++_}
 use Prim.Native.Nat.{ℕ, suc, _+_, _<_, _≤_}
 use native.Mathlib.Omega.{arith}
 use borrow.Author.Tests.{eqb-true, eq-eqb}
-use lib.Dec.{eqb}
 use lib.IntN.{ℤ, pos, negsuc}
 use lib.ListN.{length, getD, take}
 use lib.Seq.{take-suc, take-all}
 use Rattle.whole.specs.Booleans.{both}
 use Rattle.whole.specs.Evaluated.{same, sameWords}
+
+nothing-true : {A : Type 0} → false ≡ true → A
+nothing-true e = let z : _≡_ {A = ℕ} 0 1 = cc in absurd (omega arith)
 
 -- ---- one by one
 same-itself : (z : ℤ) → same z z ≡ true
@@ -19,18 +21,9 @@ same-itself (negsuc n) = eq-eqb n n refl
 
 same-is : (a b : ℤ) → same a b ≡ true → a ≡ b
 same-is (pos a) (pos b) e = ap pos (eqb-true a b e)
-same-is (pos a) (negsuc b) e = absurd (false-true e)
-  where
-    false-true : false ≡ true → ⊥
-    false-true e = let z : _≡_ {A = ℕ} 0 1 = cc in absurd (omega arith)
-same-is (negsuc a) (pos b) e = absurd (false-true e)
-  where
-    false-true : false ≡ true → ⊥
-    false-true e = let z : _≡_ {A = ℕ} 0 1 = cc in absurd (omega arith)
+same-is (pos a) (negsuc b) e = nothing-true e
+same-is (negsuc a) (pos b) e = nothing-true e
 same-is (negsuc a) (negsuc b) e = ap negsuc (eqb-true a b e)
-
-nothing-true : {A : Type 0} → false ≡ true → A
-nothing-true e = let z : _≡_ {A = ℕ} 0 1 = cc in absurd (omega arith)
 
 -- ---- lists of words
 words-themselves : (l : List ℤ) → sameWords l l ≡ true

@@ -1,7 +1,7 @@
 -- Where two walks begin: both places are listed, and what is asked of a turn's index. A walk over inputs is one over the same inputs, however they are named. Assumes
 -- nothing.
 use mathlib.Core.Path.{_≡_, ap, subst, _∙_}
-use mathlib.Core.Bool.{Bool, true, _&&_}
+use mathlib.Core.Bool.{true, _&&_}
 use mathlib.Core.List.{List, [], _∷_}
 use Prim.Native.Nat.{ℕ, _*_, _^_, _<_}
 use native.Mathlib.Omega.{arith}

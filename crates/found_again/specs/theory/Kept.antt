@@ -1,7 +1,6 @@
 -- Days that a correction keeps: a mark that stays at its second is on the same day, and where the first turns of both walks have the same index, so have the turns
 -- behind them, one by one. Assumes nothing.
 use mathlib.Core.Path.{_≡_, refl, sym, ap, _∙_}
-use mathlib.Core.Bool.{true}
 use mathlib.Core.List.{List, [], _∷_}
 use mathlib.Core.Logic.{_⊎_, inl, inr, ⊎-elim}
 use Prim.Native.Nat.{ℕ, suc, _+_, _*_, _≤_, _<_}
@@ -11,7 +10,6 @@ use lib.ListN.{take, drop}
 use lib.Signed.{_≤ℤ_, _<ℤ_}
 use Rattle.whole.specs.Solver.{⇑, ⇓, ring}
 use Rattle.whole.specs.Selected.{tabulate-same}
-use Rattle.times.specs.declared.Day.{Day}
 use Rattle.clock.specs.Clock.{dayIn}
 use Rattle.series.specs.declared.Body.{Body}
 use Rattle.series.specs.declared.Body.the-variants.{Sun}

@@ -1,6 +1,5 @@
 -- `found_again::inner::find_by` meets its contract. In the needs, `start` is the function's entry. Assumes nothing.
 use mathlib.Core.Path.{_≡_, sym, ap, subst, _∙_}
-use mathlib.Core.List.{List, _++_}
 use Prim.Native.Nat.{ℕ, _+_, _*_, _≤_, _<_}
 use native.Mathlib.Omega.{arith}
 use native.Mathlib.Decide.{decLt}
@@ -23,7 +22,6 @@ use Rattle.suis.specs.Ahead.{Ahead, zhongqiOf, fewer}
 use Rattle.suis.specs.theory.Lookups.{Fewer, fewer-says, ahead-made, ahead-any}
 use Rattle.suis.specs.theory.Zhongqi.{length-zhongqi, zhongqi-made}
 use Rattle.corrected.specs.Shared.{Stays}
-use Rattle.build.specs.theory.Walk.{Walks}
 use Rattle.found_again.specs.theory.Begun.{solstice-listed, moon-listed}
 use Rattle.found_again.specs.theory.Kept.{days-kept, zhongqi-kept}
 use Rattle.found_again.proofs.inner.find_by.Statement.{statement}

@@ -12,8 +12,6 @@ use mir.Facts.{toZ-ofZ}
 use Rattle.found_again.specs.theory.Alike.{words-alike, words-unlike, front-more, front-all}
 use Rattle.found_again.proofs.inner.alike.same_words.Statement.{statement}
 use Rattle.found_again.proofs.inner.alike.same_words.Tie as tie
-use Rattle.found_again.proofs.inner.alike.same_words.Reads as reads
-use Rattle.found_again.proofs.inner.alike.same_words.Lts as lts
 
 abbrev Inv-loop : tie.InvT-loop
 Inv-loop a b n i₀ i = (n ≡ length a) × ((n ≡ length b) × ((i ≤ n) × (take i a ≡ take i b)))
