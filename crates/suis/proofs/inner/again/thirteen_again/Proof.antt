@@ -1,10 +1,10 @@
 -- `suis::inner::again::thirteen_again` meets its contract. In the needs, `start` is the function's entry. Assumes nothing.
-use mathlib.Core.Path.{_≡_, sym, ap, ap₂, _∙_}
+use mathlib.Core.Path.{_≡_, sym, ap, ap₂, subst, _∙_}
 use Prim.Native.Nat.{suc, _+_, _*_, _<_}
 use native.Mathlib.Omega.{arith}
 use borrow.Author.Needs.{needs}
 use lib.IntN.{ℤ, pos, _+ℤ_}
-use lib.ListN.{length, getD}
+use lib.ListN.{getD}
 use mir.Syntax.{w64}
 use mir.Val.{SFits, ofZ, toZ}
 use mir.Facts.{toZ-ofZ}
@@ -14,7 +14,6 @@ use Rattle.series.specs.Series.{Series, series}
 use Rattle.turns.specs.declared.inner.TurnList.{TurnList}
 use Rattle.turns.specs.Listed.{turnIndexOf, turn-after, turnsOf}
 use Rattle.turns.specs.Searched.{turn-fits, circles-small, count-is, count-small}
-use Rattle.sui.specs.theory.Found.{zhongqiFrom}
 use Rattle.sui.specs.theory.Solstices.{one-circle-on}
 use Rattle.suis.specs.Again.{outside}
 use Rattle.suis.specs.theory.Zhongqi.{first-known, last-known, last-listed, both-turns}
@@ -74,7 +73,8 @@ add-requires : tie.Need-add-requires
 add-requires c κs =
     let start = c .before .before in
     let k = start .args .place + start .args .j in
-    rw (at-index c, ← one-circle-on (start .args .start .0) (start .args .coefs .now) k) (turn-fits (sun-of start) (start .pre .0 .ready .is-accepted) (suc k) (both-listed start))
+    let last : index-of start +ℤ pos 24 ≡ turnIndexOf (sun-of start) (suc k) = sym (one-circle-on (start .args .start .0) (start .args .coefs .now) k) in
+    subst (λ (z : ℤ). SFits w64 z) (sym (ap (λ (index : ℤ). index +ℤ pos 24) (at-index c) ∙ last)) (turn-fits (sun-of start) (start .pre .0 .ready .is-accepted) (suc k) (both-listed start))
 
 -- the index of its second solstice
 at-last : (c : lts.After-add called reads.Pre reads.Post) → toZ w64 (ofZ w64 (c .add .result)) ≡ index-of (c .before .before .before) +ℤ pos 24
