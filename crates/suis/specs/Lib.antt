@@ -1,2 +1,4 @@
 pub mod Ahead
+pub mod Again
 pub mod theory
+pub mod Examples

@@ -32,6 +32,8 @@ ghost use Rattle.turns.specs.Searched.{Searched};
 ghost use Rattle.sui.specs.Sui.{suiDays, suiOfYear};
 ghost use Rattle.suis.specs.Ahead.{Ahead, YearAhead, zhongqiOf, paperBegin, begun, fewer};
 
+pub mod again;
+
 // The place of the first solstice of a sui among the Sun's, and of month 11's new moon among the Moon's.
 pub struct Places {
     pub solstice: usize,
