@@ -10,3 +10,4 @@ pub mod Walking
 pub mod Written
 pub mod Copied
 pub mod Judging
+pub mod Over

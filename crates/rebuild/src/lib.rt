@@ -4,6 +4,7 @@ use refusals::Refusal;
 mod alike;
 mod days;
 mod old;
+mod new;
 mod walk;
 mod writing;
 mod years;

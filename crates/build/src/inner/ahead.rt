@@ -20,20 +20,20 @@ ghost use Rattle.build.specs.Build.{bytesOfYears};
 ghost use Rattle.build.specs.theory.Walk.{Begins, Walks};
 
 // Room for the days ahead of 128 suis: a solstice each and two more, thirteen new moons each and two more.
-fn solstice_days() -> [i64; 130]
+pub fn solstice_days() -> [i64; 130]
     ensures { λ r. ⌜ 130 ≡ length r ⌝ }
 {
     [0; 130]
 }
 
-fn newmoon_days() -> [i64; 1666]
+pub fn newmoon_days() -> [i64; 1666]
     ensures { λ r. ⌜ 1666 ≡ length r ⌝ }
 {
     [0; 1666]
 }
 
 // Thirteen zhongqi each.
-fn zhongqi_days() -> [i64; 1664]
+pub fn zhongqi_days() -> [i64; 1664]
     ensures { λ r. ⌜ 1664 ≡ length r ⌝ }
 {
     [0; 1664]

@@ -1,0 +1,64 @@
+-- The rebuild over the years of the old file, behind the judgement of the old inputs: 13 unless these give the old file, then the new inputs, each sui, and the
+-- room. Assumes nothing.
+use mathlib.Core.Path.{_≡_, refl, sym, ap, ap₂, _∙_}
+use mathlib.Core.Bool.{Bool, true, false, not}
+use mathlib.Core.List.{List}
+use Prim.Native.Nat.{ℕ, _≤_, _<_}
+use native.Mathlib.Omega.{arith}
+use lib.IntN.{ℤ, pos}
+use lib.ListN.{length}
+use Rattle.whole.specs.Tests.{inRange}
+use Rattle.refusals.specs.Verdict.{Verdict, answered, refused, accepted, refuseWhen, _before_, _then_}
+use Rattle.refusals.specs.Lent.{writtenInto}
+use Rattle.inputs.specs.Inputs.{Inputs, inputsJudged}
+use Rattle.almanac.specs.Layout.{fileOf}
+use Rattle.content.specs.Content.{Content}
+use Rattle.build.specs.Build.{bytesOfYears, bytesBuilt, builtBy}
+use Rattle.rebuild.specs.declared.Rebuilt.{Rebuilt}
+use Rattle.rebuild.specs.Rebuild.{Years, NewFile, isFile, mostBytes, newFileBy, keptBy, kept, rebuilt, rebuiltBy, givenBy, yearsIn, counted, new-bytes, kept-years}
+
+module _ (old new : Inputs) (zone : ℤ) (file : List ℕ) (first : ℤ) (n : ℕ) where
+  abbrev pub its-file : Bool
+  its-file = isFile (bytesOfYears old zone first n mostBytes) file
+
+  unfoldable pub rebuiltOver : ℕ → ℕ → Verdict NewFile
+  rebuiltOver room places =
+      refuseWhen (not its-file) 13
+      before newFileBy (inputsJudged new before bytesOfYears new zone first n room) (keptBy (kept old new zone) first n) places
+
+-- ---- the three promises, of any verdict
+module _ (whole : Verdict NewFile) (file : List ℕ) (years : List ℤ) where
+  abbrev pub Says : Verdict Rebuilt → List ℕ → List ℤ → Type 0
+  Says result file′ years′ = (result ≡ counted whole) × ((file′ ≡ writtenInto whole new-bytes file) × (years′ ≡ writtenInto whole kept-years years))
+
+  pub says-refused : {number segment : ℕ} → whole ≡ refused number segment → Says (refused number segment) file years
+  says-refused e = rw e (refl, (refl, refl))
+
+pub same-says : {v w : Verdict NewFile} → v ≡ w → {file : List ℕ} {years : List ℤ} {result : Verdict Rebuilt} {file′ : List ℕ} {years′ : List ℤ} → Says v file years result file′ years′ → Says w file years result file′ years′
+same-says e s = rw e at s
+
+-- ---- new inputs
+pub new-refused : (judged : Verdict (Unit {0})) (w : Verdict (List ℕ)) (listed : List ℤ) (places : ℕ) {number segment : ℕ} → judged ≡ refused number segment → newFileBy (judged before w) listed places ≡ refused number segment
+unfolding newFileBy
+new-refused judged w listed places e = rw e
+
+pub new-accepted : (judged : Verdict (Unit {0})) (w : Verdict (List ℕ)) (listed : List ℤ) (places : ℕ) → judged ≡ accepted → newFileBy w listed places ≡ newFileBy (judged before w) listed places
+new-accepted judged w listed places e = rw e
+
+pub not-built-new : (w : Verdict (List ℕ)) (listed : List ℤ) (places : ℕ) {number segment : ℕ} → w ≡ refused number segment → newFileBy w listed places ≡ refused number segment
+unfolding newFileBy
+not-built-new w listed places e = rw e
+
+-- ---- the old file
+module _ (old new : Inputs) (zone : ℤ) (file : List ℕ) (first : ℤ) (n room places : ℕ) where
+  pub not-its-file : its-file old new zone file first n ≡ false → rebuiltOver old new zone file first n room places ≡ refused 13 0
+  unfolding rebuiltOver
+  not-its-file e = rw e
+
+  pub old-refused : {number segment : ℕ} → bytesOfYears old zone first n mostBytes ≡ refused number segment → rebuiltOver old new zone file first n room places ≡ refused 13 0
+  unfolding rebuiltOver
+  old-refused e = rw e
+
+  pub is-its-file : its-file old new zone file first n ≡ true → {listed : List ℤ} → listed ≡ keptBy (kept old new zone) first n → newFileBy (inputsJudged new before bytesOfYears new zone first n room) listed places ≡ rebuiltOver old new zone file first n room places
+  unfolding rebuiltOver
+  is-its-file e l = rw (e, l)
