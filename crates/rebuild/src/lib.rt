@@ -3,6 +3,7 @@ use refusals::Refusal;
 
 mod alike;
 mod days;
+mod known;
 mod old;
 mod new;
 mod walk;

@@ -19,13 +19,13 @@ use turns::inner::turns_of;
 ghost use mathlib.Core.Path.{_≡_};
 ghost use lib.ListN.{length};
 ghost use Rattle.refusals.specs.Lent.{writtenInto};
-ghost use Rattle.refusals.specs.Verdict.{_before_};
-ghost use Rattle.inputs.specs.Inputs.{inputs, inputsJudged};
+ghost use Rattle.inputs.specs.Inputs.{inputs};
 ghost use Rattle.corrected.specs.Shared.{Shared};
 ghost use Rattle.build.specs.Build.{bytesOfYears};
 ghost use Rattle.build.specs.theory.Walk.{Begins, Walks};
 ghost use Rattle.rebuild.specs.Rebuild.{newFileBy, paperRebuilt, counted, new-bytes, kept-years};
 ghost use Rattle.rebuild.specs.theory.Again.{listedAgain, Copies};
+ghost use Rattle.rebuild.specs.theory.Over.{freshBytes};
 
 // The new file, by where the first sui begins under old and new inputs.
 fn rebuild_at(
@@ -152,9 +152,9 @@ pub fn rebuild_new(
 ) -> RebuildAnswer
     requires { ⌜ Walks (inputs (now oldleap) (oldsunstart .0) (now oldsun) (oldmoonstart .0) (now oldmoon)) zone oldsuns oldmoons oldplaces first n (now oldsolstices) (now oldnewmoons) (now oldzhongqi) ⌝ }
     requires { ⌜ Copies (inputs (now leap) (sunstart .0) (now sun) (moonstart .0) (now moon)) zone first n (now before) (now old) at ⌝ }
-    ensures { λ r. ⌜ paperRebuilt r ≡ counted (newFileBy (inputsJudged (inputs (now (leap .entry)) (sunstart .0) (now (sun .entry)) (moonstart .0) (now (moon .entry))) before bytesOfYears (inputs (now (leap .entry)) (sunstart .0) (now (sun .entry)) (moonstart .0) (now (moon .entry))) zone first n (length (now (file .entry)))) (listedAgain (inputs (now (leap .entry)) (sunstart .0) (now (sun .entry)) (moonstart .0) (now (moon .entry))) zone first (now (before .entry)) n) (length (now (years .entry)))) ⌝ }
-    ensures { λ r. ⌜ now (file .exit) ≡ writtenInto (newFileBy (inputsJudged (inputs (now (leap .entry)) (sunstart .0) (now (sun .entry)) (moonstart .0) (now (moon .entry))) before bytesOfYears (inputs (now (leap .entry)) (sunstart .0) (now (sun .entry)) (moonstart .0) (now (moon .entry))) zone first n (length (now (file .entry)))) (listedAgain (inputs (now (leap .entry)) (sunstart .0) (now (sun .entry)) (moonstart .0) (now (moon .entry))) zone first (now (before .entry)) n) (length (now (years .entry)))) new-bytes (now (file .entry)) ⌝ }
-    ensures { λ r. ⌜ now (years .exit) ≡ writtenInto (newFileBy (inputsJudged (inputs (now (leap .entry)) (sunstart .0) (now (sun .entry)) (moonstart .0) (now (moon .entry))) before bytesOfYears (inputs (now (leap .entry)) (sunstart .0) (now (sun .entry)) (moonstart .0) (now (moon .entry))) zone first n (length (now (file .entry)))) (listedAgain (inputs (now (leap .entry)) (sunstart .0) (now (sun .entry)) (moonstart .0) (now (moon .entry))) zone first (now (before .entry)) n) (length (now (years .entry)))) kept-years (now (years .entry)) ⌝ }
+    ensures { λ r. ⌜ paperRebuilt r ≡ counted (newFileBy (freshBytes (inputs (now (leap .entry)) (sunstart .0) (now (sun .entry)) (moonstart .0) (now (moon .entry))) zone first n (length (now (file .entry)))) (listedAgain (inputs (now (leap .entry)) (sunstart .0) (now (sun .entry)) (moonstart .0) (now (moon .entry))) zone first (now (before .entry)) n) (length (now (years .entry)))) ⌝ }
+    ensures { λ r. ⌜ now (file .exit) ≡ writtenInto (newFileBy (freshBytes (inputs (now (leap .entry)) (sunstart .0) (now (sun .entry)) (moonstart .0) (now (moon .entry))) zone first n (length (now (file .entry)))) (listedAgain (inputs (now (leap .entry)) (sunstart .0) (now (sun .entry)) (moonstart .0) (now (moon .entry))) zone first (now (before .entry)) n) (length (now (years .entry)))) new-bytes (now (file .entry)) ⌝ }
+    ensures { λ r. ⌜ now (years .exit) ≡ writtenInto (newFileBy (freshBytes (inputs (now (leap .entry)) (sunstart .0) (now (sun .entry)) (moonstart .0) (now (moon .entry))) zone first n (length (now (file .entry)))) (listedAgain (inputs (now (leap .entry)) (sunstart .0) (now (sun .entry)) (moonstart .0) (now (moon .entry))) zone first (now (before .entry)) n) (length (now (years .entry)))) kept-years (now (years .entry)) ⌝ }
 {
     let sunpart = changed_segments(oldsun, sun);
     let moonpart = changed_segments(oldmoon, moon);

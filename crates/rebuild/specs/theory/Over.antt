@@ -2,20 +2,27 @@
 -- room. Assumes nothing.
 use mathlib.Core.Path.{_≡_, refl, sym, ap, ap₂, _∙_}
 use mathlib.Core.Bool.{Bool, true, false, not}
-use mathlib.Core.List.{List}
+use mathlib.Core.List.{List, [], _∷_}
 use Prim.Native.Nat.{ℕ, _≤_, _<_}
 use native.Mathlib.Omega.{arith}
-use lib.IntN.{ℤ, pos}
+use lib.IntN.{ℤ, pos, _+ℤ_}
 use lib.ListN.{length}
+use Rattle.whole.specs.Solver.{⇑, ring}
 use Rattle.whole.specs.Tests.{inRange}
 use Rattle.refusals.specs.Verdict.{Verdict, answered, refused, accepted, refuseWhen, _before_, _then_}
 use Rattle.refusals.specs.Lent.{writtenInto}
 use Rattle.inputs.specs.Inputs.{Inputs, inputsJudged}
+use Rattle.sui.specs.Sui.{suiOfYear}
 use Rattle.almanac.specs.Layout.{fileOf}
 use Rattle.content.specs.Content.{Content}
-use Rattle.build.specs.Build.{bytesOfYears, bytesBuilt, builtBy}
+use Rattle.build.specs.Build.{bytesOfYears, bytesBuilt, builtBy, bytesBy, contentBy, suisBy}
+use Rattle.build.specs.theory.Years.{suis-refused}
 use Rattle.rebuild.specs.declared.Rebuilt.{Rebuilt}
 use Rattle.rebuild.specs.Rebuild.{Years, NewFile, isFile, mostBytes, newFileBy, keptBy, kept, rebuilt, rebuiltBy, givenBy, yearsIn, counted, new-bytes, kept-years}
+
+-- the fresh build of n years, 1 to 128 of them, behind the judgement of its inputs
+abbrev pub freshBytes : Inputs → ℤ → ℤ → ℕ → ℕ → Verdict (List ℕ)
+freshBytes i zone first n room = inputsJudged i before bytesOfYears i zone first n room
 
 module _ (old new : Inputs) (zone : ℤ) (file : List ℕ) (first : ℤ) (n : ℕ) where
   abbrev pub its-file : Bool
@@ -24,7 +31,7 @@ module _ (old new : Inputs) (zone : ℤ) (file : List ℕ) (first : ℤ) (n : �
   unfoldable pub rebuiltOver : ℕ → ℕ → Verdict NewFile
   rebuiltOver room places =
       refuseWhen (not its-file) 13
-      before newFileBy (inputsJudged new before bytesOfYears new zone first n room) (keptBy (kept old new zone) first n) places
+      before newFileBy (freshBytes new zone first n room) (keptBy (kept old new zone) first n) places
 
 -- ---- the three promises, of any verdict
 module _ (whole : Verdict NewFile) (file : List ℕ) (years : List ℤ) where
@@ -34,8 +41,8 @@ module _ (whole : Verdict NewFile) (file : List ℕ) (years : List ℤ) where
   pub says-refused : {number segment : ℕ} → whole ≡ refused number segment → Says (refused number segment) file years
   says-refused e = rw e (refl, (refl, refl))
 
-pub same-says : {v w : Verdict NewFile} → v ≡ w → {file : List ℕ} {years : List ℤ} {result : Verdict Rebuilt} {file′ : List ℕ} {years′ : List ℤ} → Says v file years result file′ years′ → Says w file years result file′ years′
-same-says e s = rw e at s
+pub same-says : {v w : Verdict NewFile} → v ≡ w → (file : List ℕ) (years : List ℤ) {result : Verdict Rebuilt} {file′ : List ℕ} {years′ : List ℤ} → Says v file years result file′ years′ → Says w file years result file′ years′
+same-says e file years s = rw e at s
 
 -- ---- new inputs
 pub new-refused : (judged : Verdict (Unit {0})) (w : Verdict (List ℕ)) (listed : List ℤ) (places : ℕ) {number segment : ℕ} → judged ≡ refused number segment → newFileBy (judged before w) listed places ≡ refused number segment
@@ -49,6 +56,13 @@ pub not-built-new : (w : Verdict (List ℕ)) (listed : List ℤ) (places : ℕ) 
 unfolding newFileBy
 not-built-new w listed places e = rw e
 
+-- where the first sui cannot be found, nothing is built
+pub first-refused : (i : Inputs) (zone first : ℤ) (n room : ℕ) {number segment : ℕ} → 0 < n → suiOfYear i zone first ≡ refused number segment → bytesOfYears i zone first n room ≡ refused number segment
+unfolding bytesBy contentBy suisBy
+first-refused i zone first n room some e =
+    let here : first +ℤ pos 0 ≡ first = ⇑ (first ∷ []) (search ring depth 9) refl in
+    rw (suis-refused i zone first 0 n refl (ap (suiOfYear i zone) here ∙ e) some)
+
 -- ---- the old file
 module _ (old new : Inputs) (zone : ℤ) (file : List ℕ) (first : ℤ) (n room places : ℕ) where
   pub not-its-file : its-file old new zone file first n ≡ false → rebuiltOver old new zone file first n room places ≡ refused 13 0
@@ -59,6 +73,6 @@ module _ (old new : Inputs) (zone : ℤ) (file : List ℕ) (first : ℤ) (n room
   unfolding rebuiltOver
   old-refused e = rw e
 
-  pub is-its-file : its-file old new zone file first n ≡ true → {listed : List ℤ} → listed ≡ keptBy (kept old new zone) first n → newFileBy (inputsJudged new before bytesOfYears new zone first n room) listed places ≡ rebuiltOver old new zone file first n room places
+  pub is-its-file : its-file old new zone file first n ≡ true → {listed : List ℤ} → listed ≡ keptBy (kept old new zone) first n → newFileBy (freshBytes new zone first n room) listed places ≡ rebuiltOver old new zone file first n room places
   unfolding rebuiltOver
   is-its-file e l = rw (e, l)
