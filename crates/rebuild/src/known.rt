@@ -25,6 +25,13 @@ ghost use Rattle.build.specs.theory.Walk.{Begins};
 ghost use Rattle.rebuild.specs.Rebuild.{paperRebuilt, counted, new-bytes, kept-years};
 ghost use Rattle.rebuild.specs.theory.Over.{rebuiltOver};
 
+// Room for the days of 128 suis, 28 words each.
+fn day_words() -> [i64; 3584]
+    ensures { λ r. ⌜ 3584 ≡ length r ⌝ }
+{
+    [0; 3584]
+}
+
 // By where the first old sui begins; 13 unless the old inputs give the old file.
 fn rebuild_old(
     old: &[u8],
@@ -90,8 +97,7 @@ fn rebuild_old(
     ) {
         return RebuildAnswer::Refused(refusals::LAYOUT);
     }
-    // 28 words a sui, stored word by word where they stand (`build::inner::ahead::build_from` says why).
-    let mut before: [i64; 3584] = [first; 3584];
+    let mut before = day_words();
     keep_days(
         oldleap,
         oldsunstart,
