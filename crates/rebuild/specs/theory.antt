@@ -11,3 +11,4 @@ pub mod Written
 pub mod Copied
 pub mod Judging
 pub mod Over
+pub mod Entry

@@ -1,11 +1,20 @@
 // The rebuild: the suis of an old almanac file from corrected inputs, and the years of those that the correction leaves as they were (document 02, order 1).
+use old::FileYearsAnswer;
+use refusals::Check;
 use refusals::Refusal;
+use times::Second;
+ghost use mathlib.Core.Path.{_≡_};
+ghost use lib.ListN.{length};
+ghost use Rattle.refusals.specs.Lent.{writtenInto};
+ghost use Rattle.clock.specs.Clock.{utc8};
+ghost use Rattle.inputs.specs.Inputs.{inputs};
+ghost use Rattle.rebuild.specs.Rebuild.{rebuilt, paperRebuilt, counted, new-bytes, kept-years};
 
 mod alike;
 mod days;
 mod known;
-mod old;
 mod new;
+mod old;
 mod walk;
 mod writing;
 mod years;
@@ -19,4 +28,55 @@ pub struct Rebuilt {
 pub enum RebuildAnswer {
     Rebuilt(Rebuilt),
     Refused(Refusal),
+}
+
+// Rebuilds the file of the old file's years from new inputs, by UTC+8 days, and lists the years of the suis whose days they leave as they were: 13 unless the old
+// inputs give the old file, then as a build of the new inputs refuses, then 12 where bytes or years have no room. Refused, nothing is written.
+pub fn rebuild(
+    old: &[u8],
+    oldleap: &[i64],
+    oldsunstart: Second,
+    oldsun: &[i64],
+    oldmoonstart: Second,
+    oldmoon: &[i64],
+    leap: &[i64],
+    sunstart: Second,
+    sun: &[i64],
+    moonstart: Second,
+    moon: &[i64],
+    file: &mut [u8],
+    years: &mut [i64],
+) -> RebuildAnswer
+    ensures { λ r. ⌜ paperRebuilt r ≡ counted (rebuilt (inputs (now (oldleap .entry)) (oldsunstart .0) (now (oldsun .entry)) (oldmoonstart .0) (now (oldmoon .entry))) (inputs (now (leap .entry)) (sunstart .0) (now (sun .entry)) (moonstart .0) (now (moon .entry))) utc8 (now (old .entry)) (length (now (file .entry))) (length (now (years .entry)))) ⌝ }
+    ensures { λ r. ⌜ now (file .exit) ≡ writtenInto (rebuilt (inputs (now (oldleap .entry)) (oldsunstart .0) (now (oldsun .entry)) (oldmoonstart .0) (now (oldmoon .entry))) (inputs (now (leap .entry)) (sunstart .0) (now (sun .entry)) (moonstart .0) (now (moon .entry))) utc8 (now (old .entry)) (length (now (file .entry))) (length (now (years .entry)))) new-bytes (now (file .entry)) ⌝ }
+    ensures { λ r. ⌜ now (years .exit) ≡ writtenInto (rebuilt (inputs (now (oldleap .entry)) (oldsunstart .0) (now (oldsun .entry)) (oldmoonstart .0) (now (oldmoon .entry))) (inputs (now (leap .entry)) (sunstart .0) (now (sun .entry)) (moonstart .0) (now (moon .entry))) utc8 (now (old .entry)) (length (now (file .entry))) (length (now (years .entry)))) kept-years (now (years .entry)) ⌝ }
+{
+    let span = old::years_in(old);
+    match span {
+        FileYearsAnswer::Refused(r) => RebuildAnswer::Refused(r),
+        FileYearsAnswer::Years(y) => {
+            let check = inputs::judge(oldleap, oldsunstart, oldsun, oldmoonstart, oldmoon);
+            if let Check::Refused(_) = check {
+                return RebuildAnswer::Refused(refusals::LAYOUT);
+            }
+            known::rebuild_known(
+                old,
+                oldleap,
+                oldsunstart,
+                oldsun,
+                oldmoonstart,
+                oldmoon,
+                leap,
+                sunstart,
+                sun,
+                moonstart,
+                moon,
+                480,
+                y.first,
+                y.count,
+                file,
+                years,
+            )
+        }
+    }
 }

@@ -52,7 +52,7 @@ enum-known-begun : tie.Need-enum-known-begun
 enum-known-begun c = search needs
 
 rebuild-old-requires : tie.Need-rebuild-old-requires
-rebuild-old-requires c κs = 
+rebuild-old-requires c κs =
     let begin = c .before .before .before .before .before in
     let start = begin .before .before .before .before .before in
     let a = start .args in
@@ -68,7 +68,7 @@ rebuild-old-requires c κs =
     })
 
 returns : tie.Need-returns
-returns c = 
+returns c =
     let begin = c .before .before in
     let start = begin .before .before .before .before .before in
     let a = start .args in
@@ -83,7 +83,7 @@ same-length-2 : tie.Need-same-length-2
 same-length-2 c = search needs
 
 returns-2 : tie.Need-returns-2
-returns-2 c = 
+returns-2 c =
     let made = c .before .before .before in
     let start = made .before .before .before .before .before .before .before .before .before .before .before in
     rw (toZ-ofZ (start .fits .zone), toZ-ofZ (start .fits .first)) at (made .rebuild-old .ensures)

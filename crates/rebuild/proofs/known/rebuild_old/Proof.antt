@@ -100,7 +100,7 @@ slice-aggregate-find-ahead-3 : tie.Need-slice-aggregate-find-ahead-3
 slice-aggregate-find-ahead-3 c = search needs
 
 find-ahead-requires : tie.Need-find-ahead-requires
-find-ahead-requires c κs = 
+find-ahead-requires c κs =
     let start = c .before .before .before .before .before .before .before .before in
     let few = start .pre .few-years in
     rw (toZ-ofZ (start .fits .zone), toZ-ofZ (start .fits .first)) (start .pre, (omega (arith, c .before .before .before .before .before .solstice-days .ensures), (omega (arith, c .before .before .before .before .newmoon-days .ensures), omega (arith, c .before .before .before .zhongqi-days .ensures))))
@@ -124,7 +124,7 @@ gives-requires : tie.Need-gives-requires
 gives-requires c κs = search needs
 
 returns : tie.Need-returns
-returns c = 
+returns c =
     let start = c .before .before .before .before .before .before .before .before .before .before .before .before .before .before .before .before .before in
     let a = start .args in
     says-refused (rebuiltOver (old-of start) (new-of start) (a .zone) (a .old .now) (a .first) (a .n) (length (a .file .now)) (length (a .years .now))) (a .file .now) (a .years .now)
@@ -152,12 +152,11 @@ slice-aggregate-keep-days-4 : tie.Need-slice-aggregate-keep-days-4
 slice-aggregate-keep-days-4 c = search needs
 
 keep-days-requires : tie.Need-keep-days-requires
-keep-days-requires c κs = 
+keep-days-requires c κs =
     let given = c .before .before .before .before .before in
     let start = start-of given in
     let a = start .args in
-    let b = start .pre in
-    (
+    let b = start .pre in (
       c .before .before .before .before .before .before .before .before .before .before .before .before .before .find-ahead .ensures .1,
       (
         rw (toZ-ofZ (start .fits .zone), toZ-ofZ (start .fits .first)) (all-found (old-of start) (a .zone) (a .first) (b .is-known) (b .suns-searched .zone-small) (a .n) (b .some-years) (b .few-years) (old-bytes given)),
@@ -196,14 +195,13 @@ slice-aggregate-rebuild-new-4 : tie.Need-slice-aggregate-rebuild-new-4
 slice-aggregate-rebuild-new-4 c = search needs
 
 rebuild-new-requires : tie.Need-rebuild-new-requires
-rebuild-new-requires c κs = 
+rebuild-new-requires c κs =
     let keeps = c .before .before .before .before .before .before .before in
     let given = given-of keeps in
     let start = start-of given in
     let a = start .args in
     let b = start .pre in
-    let there : monthsAt (length (a .oldleap .now) / 2) (a .n) + 4 ≡ 12 + 8 * (length (a .oldleap .now) / 2) + 5 * a .n = omega arith in
-    (
+    let there : monthsAt (length (a .oldleap .now) / 2) (a .n) + 4 ≡ 12 + 8 * (length (a .oldleap .now) / 2) + 5 * a .n = omega arith in (
       c .before .before .before .before .before .before .before .before .before .before .before .before .before .before .before .before .before .before .before .before .before .find-ahead .ensures .1,
       rw (toZ-ofZ (start .fits .zone), toZ-ofZ (start .fits .first)) (rw there at (copies-from-old (old-of start) (a .zone) (a .first) (b .is-known) (b .suns-searched .zone-small) (a .n) (b .some-years) (b .few-years) (old-bytes given) (room-of keeps) (omega (arith, b .few-years, keeps .before .before .before .before .before .day-words .ensures)) (put keeps) (new-of start))),
     )
@@ -215,7 +213,7 @@ same-length-2 : tie.Need-same-length-2
 same-length-2 c = search needs
 
 returns-2 : tie.Need-returns-2
-returns-2 c = 
+returns-2 c =
     let made = c .before .before .before in
     let keeps = made .before .before .before .before .before .before .before .before in
     let given′ = given-of keeps in

@@ -33,7 +33,7 @@ slice-aggregate-find-again-3 : tie.Need-slice-aggregate-find-again-3
 slice-aggregate-find-again-3 c = search needs
 
 find-again-requires : tie.Need-find-again-requires
-find-again-requires c κs = 
+find-again-requires c κs =
     let start = c .before .before .before .before .before .before .before .before in
     let few = start .pre .1 .0 .few-years in
     rw (toZ-ofZ (start .fits .zone), toZ-ofZ (start .fits .first)) (start .pre .0, (start .pre .1 .0, (start .pre .1 .1 .0, (start .pre .1 .1 .1 .0, (omega (arith, c .before .before .before .before .before .solstice-days .ensures), (omega (arith, c .before .before .before .before .newmoon-days .ensures), omega (arith, c .before .before .before .zhongqi-days .ensures)))))))
@@ -63,7 +63,7 @@ same-length-2 : tie.Need-same-length-2
 same-length-2 c = search needs
 
 returns : tie.Need-returns
-returns c = 
+returns c =
     let made = c .before .before .before in
     let start = c .before .before .before .before .before .before .before .before .before .before .before .before .before .before .before .before .before .before .before .before .before in
     rw (toZ-ofZ (start .fits .zone), toZ-ofZ (start .fits .first)) at (made .rebuild-from .ensures)

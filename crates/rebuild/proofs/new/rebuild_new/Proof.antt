@@ -71,7 +71,7 @@ changed-segments-requires-2 : tie.Need-changed-segments-requires-2
 changed-segments-requires-2 c κs = search needs
 
 judge-again-requires : tie.Need-judge-again-requires
-judge-again-requires c κs = 
+judge-again-requires c κs =
     let start = c .before .before .before .before in
     let k = start .pre .0 .begun .is-known in
     (k .sun-ready .is-accepted, (k .moon-ready .is-accepted, (c .before .changed-segments .ensures, c .changed-segments2 .ensures)))
@@ -80,7 +80,7 @@ enum-known-check : tie.Need-enum-known-check
 enum-known-check c = search needs
 
 returns : tie.Need-returns
-returns c = 
+returns c =
     let judge = c .before .before .before in
     let start = start-of judge in
     let a = start .args in
@@ -97,7 +97,7 @@ turns-of-requires-2 : tie.Need-turns-of-requires-2
 turns-of-requires-2 c κs = is-known (c .before) .moon-ready .is-accepted
 
 begin-requires : tie.Need-begin-requires
-begin-requires c κs = 
+begin-requires c κs =
     let told = c .before .before in
     let start = start-of (told .before .before) in
     let zone-small = start .pre .0 .begun .suns-searched .zone-small in
@@ -110,7 +110,7 @@ enum-known-begun-2 : tie.Need-enum-known-begun-2
 enum-known-begun-2 c = search needs
 
 rebuild-at-requires : tie.Need-rebuild-at-requires
-rebuild-at-requires c κs = 
+rebuild-at-requires c κs =
     let begin = c .before .before .before .before .before in
     let told = begin .before .before .before in
     let judge = told .before .before in
@@ -135,7 +135,7 @@ rebuild-at-requires c κs =
     )
 
 returns-2 : tie.Need-returns-2
-returns-2 c = 
+returns-2 c =
     let begin = c .before .before .before in
     let told = begin .before .before .before in
     let start = start-of (told .before .before) in
@@ -152,7 +152,7 @@ same-length-2 : tie.Need-same-length-2
 same-length-2 c = search needs
 
 returns-3 : tie.Need-returns-3
-returns-3 c = 
+returns-3 c =
     let made = c .before .before .before in
     let begin = made .before .before .before .before .before .before in
     let told = begin .before .before .before in

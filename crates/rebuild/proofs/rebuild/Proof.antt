@@ -1,0 +1,128 @@
+-- `rebuild::rebuild` meets its contract. In the needs, `start` is the function's entry. Assumes nothing.
+use mathlib.Core.Path.{_≡_, sym, ap, _∙_}
+use mathlib.Core.List.{List}
+use Prim.Native.Nat.{ℕ}
+use native.Mathlib.Omega.{arith}
+use lib.ListN.{length}
+use mir.Facts.{toZ-ofZ}
+use Rattle.whole.specs.Ranges.{fits-of}
+use Rattle.refusals.specs.Verdict.{Verdict, answered, accepted-is, paperCheck, _then_}
+use Rattle.clock.specs.Clock.{utc8}
+use Rattle.inputs.specs.Inputs.{Inputs, inputs}
+use Rattle.inputs.specs.Theorems.{known}
+use Rattle.almanac.specs.Layout.{fileOf}
+use Rattle.rebuild.specs.declared.old.FileYears.{FileYears}
+use Rattle.rebuild.specs.declared.old.FileYearsAnswer.the-variants.{Years as YearsAnswer}
+use Rattle.rebuild.specs.Rebuild.{Years, rebuilt, yearsIn}
+use Rattle.rebuild.specs.theory.Judging.{paperYears, years-few}
+use Rattle.rebuild.specs.theory.Over.{says-refused, same-says}
+use Rattle.rebuild.specs.theory.Entry.{not-read, old-not-accepted, old-accepted}
+use borrow.Author.Needs.{needs}
+use Rattle.rebuild.proofs.rebuild.Statement.{statement}
+use Rattle.rebuild.proofs.rebuild.Tie as tie
+use Rattle.rebuild.proofs.rebuild.Reads as reads
+use Rattle.rebuild.proofs.rebuild.Lts as lts
+use Rattle.inputs.proofs.judge.Reads as judge-reads
+use Rattle.rebuild.proofs.known.rebuild_known.Reads as rebuild-known-reads
+use Rattle.rebuild.proofs.old.years_in.Reads as years-in-reads
+
+abbrev called : lts.Claims
+called = (years-in-reads.Asked, years-in-reads.Learnt, judge-reads.Asked, judge-reads.Learnt, rebuild-known-reads.Asked, rebuild-known-reads.Learnt)
+
+abbrev Start : Type 0
+Start = lts.Start called reads.Pre reads.Post
+
+abbrev old-of : Start → Inputs
+old-of start = let a = start .args in inputs (a .oldleap .now) (a .oldsunstart .0) (a .oldsun .now) (a .oldmoonstart .0) (a .oldmoon .now)
+
+abbrev new-of : Start → Inputs
+new-of start = let a = start .args in inputs (a .leap .now) (a .sunstart .0) (a .sun .now) (a .moonstart .0) (a .moon .now)
+
+-- the years of the old file
+abbrev years-of : FileYears → Years
+years-of y = record { first = y .first; count = y .count }
+
+at-years : (c : lts.After-years-in called reads.Pre reads.Post) {y : FileYears} → c .years-in .result ≡ YearsAnswer y → answered (years-of y) ≡ (fileOf (c .before .before .before .args .old .now) then λ d. answered (yearsIn d))
+at-years c e = sym (ap paperYears e) ∙ c .years-in .ensures
+
+-- ---- the needs
+
+years-in-requires : tie.Need-years-in-requires
+years-in-requires c κs = search needs
+
+enum-known-span : tie.Need-enum-known-span
+enum-known-span c = search needs
+
+enum-known-span-2 : tie.Need-enum-known-span-2
+enum-known-span-2 c = search needs
+
+judge-requires : tie.Need-judge-requires
+judge-requires c κs = search needs
+
+-- /work/w0/target/rlib/refusals.rlib/interface/lang/src/lib.rt:12:30
+enum-told : tie.Need-enum-told
+enum-told c = search needs
+
+returns : tie.Need-returns
+returns c =
+    let judge = c .before .before in
+    let read = c .before .before .before .before .before .before in
+    let start = c .before .before .before .before .before .before .before .before .before in
+    let a = start .args in
+    says-refused (rebuilt (old-of start) (new-of start) utc8 (a .old .now) (length (a .file .now)) (length (a .years .now))) (a .file .now) (a .years .now)
+    (old-not-accepted (old-of start) (new-of start) utc8 (a .old .now) (length (a .file .now)) (length (a .years .now)) (at-years read (c .before .before .before .before .span2 .given .1)) (sym (judge .judge .ensures) ∙ ap paperCheck (c .enum-told .given .1)))
+
+enum-told-2 : tie.Need-enum-told-2
+enum-told-2 c = search needs
+
+rebuild-known-requires : tie.Need-rebuild-known-requires
+rebuild-known-requires c κs =
+    let judge = c .before .before .before .before .before in
+    let read = c .before .before .before .before .before .before .before .before .before in
+    let start = c .before .before .before .before .before .before .before .before .before .before .before .before in
+    let few = years-few (start .args .old .now) (sym (at-years read (c .before .before .before .before .before .before .before .span2 .given .1))) in
+    (known (old-of start) (accepted-is (judge .judge .ensures) (c .before .before .before .enum-told2 .given .1)), (record { within = omega arith }, (omega (arith, few .0), few .1)))
+
+returns-2 : tie.Need-returns-2
+returns-2 c =
+    let read = c .before .before .before in
+    let start = c .before .before .before .before .before .before in
+    let a = start .args in
+    says-refused (rebuilt (old-of start) (new-of start) utc8 (a .old .now) (length (a .file .now)) (length (a .years .now))) (a .file .now) (a .years .now)
+    (not-read (old-of start) (new-of start) utc8 (a .old .now) (length (a .file .now)) (length (a .years .now)) (sym (ap paperYears (c .before .span .given .1)) ∙ read .years-in .ensures))
+
+same-length : tie.Need-same-length
+same-length c = search needs
+
+same-length-2 : tie.Need-same-length-2
+same-length-2 c = search needs
+
+returns-3 : tie.Need-returns-3
+returns-3 c =
+    let made = c .before .before .before in
+    let judge = made .before .before .before .before .before .before in
+    let read = made .before .before .before .before .before .before .before .before .before .before in
+    let start = made .before .before .before .before .before .before .before .before .before .before .before .before .before in
+    let a = start .args in
+    let span = made .before .before .before .before .before .before .before .before .span2 .given .1 in
+    let few = years-few (a .old .now) (sym (at-years read span)) in
+    let f = fits-of (made .before .before .before .before .before .before .before .before .span2 .given .0 .0 .first) (made .before .struct-told .given .0 .1) in
+    same-says (old-accepted (old-of start) (new-of start) utc8 (a .old .now) (length (a .file .now)) (length (a .years .now)) (at-years read span) (accepted-is (judge .judge .ensures) (made .before .before .before .before .enum-told2 .given .1)) (few .0) (few .1)) (a .file .now) (a .years .now)
+    (rw (toZ-ofZ f) at (made .rebuild-known .ensures))
+
+pub rebuild-spec : {M : Type 1} → statement M
+rebuild-spec =
+    tie.close
+    (tie.spec
+    years-in-requires
+    enum-known-span
+    enum-known-span-2
+    judge-requires
+    enum-told
+    returns
+    enum-told-2
+    rebuild-known-requires
+    returns-2
+    same-length
+    same-length-2
+    returns-3)
