@@ -1,1 +1,3 @@
+pub mod Begin
 pub mod theory
+pub mod Examples

@@ -13,16 +13,15 @@ use times::Second;
 use turns::inner::TurnList;
 use turns::inner::turn_index;
 ghost use mathlib.Core.Path.{_≡_};
-ghost use mathlib.Core.Bool.{_&&_};
 ghost use Prim.Native.Nat.{_+_, _*_, _≤_};
 ghost use lib.ListN.{length, take};
-ghost use Rattle.whole.specs.Evaluated.{sameWords};
 ghost use Rattle.series.specs.declared.Body.the-variants.{Sun, Moon};
 ghost use Rattle.series.specs.Series.{series};
 ghost use Rattle.inputs.specs.Inputs.{inputs};
 ghost use Rattle.turns.specs.Listed.{turnIndexOf};
 ghost use Rattle.corrected.specs.Shared.{Shared};
 ghost use Rattle.build.specs.theory.Walk.{Begins, Walks};
+ghost use Rattle.found_again.specs.Begin.{beginAlike};
 
 pub mod alike;
 
@@ -120,7 +119,7 @@ fn find_by(
 
 // Whether leap tables are the same words, and so are the numbers by which two walks begin.
 fn begin_alike(oldleap: &[i64], leap: &[i64], old: &[i64], new: &[i64]) -> bool
-    ensures { λ r. ⌜ r ≡ (sameWords (now (oldleap .entry)) (now (leap .entry)) && sameWords (now (old .entry)) (now (new .entry))) ⌝ }
+    ensures { λ r. ⌜ r ≡ beginAlike (now (oldleap .entry)) (now (leap .entry)) (now (old .entry)) (now (new .entry)) ⌝ }
 {
     if !same_words(oldleap, leap) {
         return false;

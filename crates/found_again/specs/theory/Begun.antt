@@ -1,7 +1,7 @@
 -- Where two walks begin: both places are listed, and what is asked of a turn's index. A walk over inputs is one over the same inputs, however they are named. Assumes
 -- nothing.
 use mathlib.Core.Path.{_≡_, ap, subst, _∙_}
-use mathlib.Core.Bool.{true, _&&_}
+use mathlib.Core.Bool.{true}
 use mathlib.Core.List.{List, [], _∷_}
 use Prim.Native.Nat.{ℕ, _*_, _^_, _<_}
 use native.Mathlib.Omega.{arith}
@@ -24,6 +24,7 @@ use Rattle.turns.specs.Searched.{Searched, turn-fits, circles-small}
 use Rattle.suis.specs.declared.inner.Places.{Places}
 use Rattle.suis.specs.Ahead.{solsticesBefore}
 use Rattle.build.specs.theory.Walk.{Begins, Walks}
+use Rattle.found_again.specs.Begin.{beginAlike}
 use Rattle.found_again.specs.theory.Alike.{words-are}
 
 module _ {i : Inputs} {zone : ℤ} {suns moons : TurnList} {places : Places} {first : ℤ} {n : ℕ} (begun : Begins i zone suns moons places first n) where
@@ -51,7 +52,8 @@ pub record Alike (oldleap leap : List ℤ) (oldsunstart oldmoonstart oldsolstice
   pub same-solstice : oldsolstice ≡ solstice
   pub same-newmoon : oldnewmoon ≡ newmoon
 
-pub alike-says : (oldleap leap : List ℤ) (a b c d x y z w : ℤ) → (sameWords oldleap leap && sameWords (a ∷ b ∷ c ∷ d ∷ []) (x ∷ y ∷ z ∷ w ∷ [])) ≡ true → Alike oldleap leap a b c d x y z w
+pub alike-says : (oldleap leap : List ℤ) (a b c d x y z w : ℤ) → beginAlike oldleap leap (a ∷ b ∷ c ∷ d ∷ []) (x ∷ y ∷ z ∷ w ∷ []) ≡ true → Alike oldleap leap a b c d x y z w
+unfolding beginAlike
 alike-says oldleap leap a b c d x y z w e =
     let old = a ∷ b ∷ c ∷ d ∷ [] in
     let new = x ∷ y ∷ z ∷ w ∷ [] in

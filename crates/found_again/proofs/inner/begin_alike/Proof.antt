@@ -5,6 +5,7 @@ use borrow.Author.Needs.{needs}
 use borrow.Author.Tests.{not-true, not-false}
 use Rattle.whole.specs.Booleans.{first-fails}
 use Rattle.whole.specs.Evaluated.{sameWords}
+use Rattle.found_again.specs.Begin.{beginAlike}
 use Rattle.found_again.proofs.inner.begin_alike.Statement.{statement}
 use Rattle.found_again.proofs.inner.begin_alike.Tie as tie
 
@@ -12,6 +13,7 @@ same-words-requires : tie.Need-same-words-requires
 same-words-requires c κs = search needs
 
 returns : tie.Need-returns
+unfolding beginAlike
 returns c =
     let compared = c .before in
     let a = compared .before .args in
@@ -21,6 +23,7 @@ same-words-requires-2 : tie.Need-same-words-requires-2
 same-words-requires-2 c κs = search needs
 
 returns-2 : tie.Need-returns-2
+unfolding beginAlike
 returns-2 c =
     let compared = c .before .before in
     let a = compared .before .args in

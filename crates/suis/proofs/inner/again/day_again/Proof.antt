@@ -84,8 +84,7 @@ returns c =
     let start = found .before .before in
     let a = start .args in
     let i = a .i in
-    let f : SFits w64 (getD (a .known .now) i (pos 0)) = search needs in
-    toZ-ofZ f ∙ start .pre .1 .1 .each i (test .before .if1 .taken) (listed start) (sym (at-outside test) ∙ c .before .if2 .taken)
+    back (getD (a .known .now) i (pos 0)) (c .result .given) ∙ start .pre .1 .1 .each i (test .before .if1 .taken) (listed start) (sym (at-outside test) ∙ c .before .if2 .taken)
 
 add-day-of-turn : tie.Need-add-day-of-turn
 add-day-of-turn c = search needs

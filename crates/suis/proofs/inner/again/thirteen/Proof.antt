@@ -7,9 +7,7 @@ use borrow.Author.Needs.{needs}
 use lib.IntN.{ℤ, pos}
 use lib.ListN.{getD, set, take, drop, replicate, length-drop}
 use lib.Seq.{getD-drop}
-use mir.Syntax.{w64}
-use mir.Val.{SFits}
-use mir.Facts.{toZ-ofZ}
+use Rattle.whole.specs.Ranges.{back}
 use Rattle.whole.specs.Tabulated.{copy-turn}
 use Rattle.suis.proofs.inner.again.thirteen.Statement.{statement}
 use Rattle.suis.proofs.inner.again.thirteen.Tie as tie
@@ -51,9 +49,8 @@ loop-again c =
     let words = start .args .words .now in
     let at = start .args .at in
     let i = loop .loop .i in
-    let f : SFits w64 (getD words (at + i) (pos 0)) = search needs in
     let word : getD words (at + i) (pos 0) ≡ getD (drop at words) i (pos 0) = sym (getD-drop at words i (pos 0)) in
-    (omega arith, ap₂ (λ (days : List ℤ) (z : ℤ). set days i z) (loop .loop .inv .1) (toZ-ofZ f ∙ word) ∙ copy-turn (drop at words) (replicate 13 (pos 0)) i (pos 0) (omega (arith, length-drop at words, start .pre)) (omega arith))
+    (omega arith, ap₂ (λ (days : List ℤ) (z : ℤ). set days i z) (loop .loop .inv .1) (back (getD words (at + i) (pos 0)) (c .days .given) ∙ word) ∙ copy-turn (drop at words) (replicate 13 (pos 0)) i (pos 0) (omega (arith, length-drop at words, start .pre)) (omega arith))
 
 returns : tie.Need-returns Inv-loop μ-loop
 returns c =
