@@ -14,9 +14,9 @@ use Rattle.build_run.proofs.print_built.Statement.{statement}
 use Rattle.build_run.proofs.print_built.Tie as tie
 use Rattle.build_run.proofs.print_built.Reads as reads
 use Rattle.build_run.proofs.print_built.Lts as lts
-use Rattle.build_run.proofs.file_room.Reads as file-room-reads
-use Rattle.build_run.proofs.print_refusal.Reads as print-refusal-reads
-use Rattle.build_run.proofs.print_series.Reads as print-series-reads
+use Rattle.build_run.proofs.inner.file_room.Reads as file-room-reads
+use Rattle.build_run.proofs.inner.print_refusal.Reads as print-refusal-reads
+use Rattle.build_run.proofs.inner.print_series.Reads as print-series-reads
 use Rattle.building.proofs.build_taken.Reads as build-taken-reads
 use Rattle.io.proofs.write_all.Reads as write-all-reads
 
