@@ -1,5 +1,5 @@
 // For builds in other zones: the file of n suis of accepted inputs. The zone is in minutes. And the records of a sui, as words.
-use super::ahead::build_at;
+use ahead::build_at;
 use almanac::WriteAnswer;
 use series::Body;
 use suis::inner::BeginAnswer;
@@ -16,6 +16,7 @@ ghost use Rattle.inputs.specs.Known.{Known};
 ghost use Rattle.almanac.specs.Answers.{paperWritten, bytesCounted, all-bytes};
 ghost use Rattle.build.specs.Build.{bytesOfYears};
 
+pub mod ahead;
 pub mod records;
 
 // Finds where the first sui begins, and builds from there.

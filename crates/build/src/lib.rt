@@ -11,7 +11,6 @@ ghost use Rattle.inputs.specs.Inputs.{inputs};
 ghost use Rattle.almanac.specs.Answers.{paperWritten, all-bytes};
 ghost use Rattle.build.specs.Build.{bytesBuilt, fileBuilt};
 
-mod ahead;
 pub mod inner;
 mod years;
 

@@ -49,12 +49,13 @@ fn put_year(
     place: usize,
     solstices: &[i64],
     newmoons: &[i64],
+    zhongqi: &[i64],
     j: usize,
     from: usize,
     suis: &mut [i64],
     months: &mut [i64],
 ) -> YearAnswer
-    requires { ⌜ YearAhead (inputs (now leap) (sunstart .0) (now sun) (moonstart .0) (now moon)) zone suns moons year place (now solstices) (now newmoons) ⌝ }
+    requires { ⌜ YearAhead (inputs (now leap) (sunstart .0) (now sun) (moonstart .0) (now moon)) zone suns moons year place (now solstices) (now newmoons) (now zhongqi) ⌝ }
     requires { ⌜ j < 128 ⌝ }
     requires { ⌜ from ≤ 1664 ⌝ }
     requires { ⌜ 2 * j + 2 ≤ length (now suis) ⌝ }
@@ -76,6 +77,7 @@ fn put_year(
         place,
         solstices,
         newmoons,
+        zhongqi,
     );
     let check = found.check;
     if let Check::Refused(r) = check {
@@ -102,10 +104,11 @@ pub fn put_years(
     n: usize,
     solstices: &[i64],
     newmoons: &[i64],
+    zhongqi: &[i64],
     suis: &mut [i64],
     months: &mut [i64],
 ) -> YearsAnswer
-    requires { ⌜ Walks (inputs (now leap) (sunstart .0) (now sun) (moonstart .0) (now moon)) zone suns moons places first n (now solstices) (now newmoons) ⌝ }
+    requires { ⌜ Walks (inputs (now leap) (sunstart .0) (now sun) (moonstart .0) (now moon)) zone suns moons places first n (now solstices) (now newmoons) (now zhongqi) ⌝ }
     requires { ⌜ 2 * n ≤ length (now suis) ⌝ }
     requires { ⌜ 39 * n ≤ length (now months) ⌝ }
     ensures { λ r. ⌜ paperYears r ≡ monthsIn (suisFrom (inputs (now (leap .entry)) (sunstart .0) (now (sun .entry)) (moonstart .0) (now (moon .entry))) zone first n) ⌝ }
@@ -130,6 +133,7 @@ pub fn put_years(
             place + j,
             &solstices[j..],
             &newmoons[from..],
+            &zhongqi[13 * j..13 * j + 13],
             j,
             from,
             suis,

@@ -1,8 +1,8 @@
 -- What the walk from sui to sui holds: the days of turns ahead of a place, and where the first sui begins. Assumes nothing: these are definitions.
 use mathlib.Core.Path.{_≡_}
 use mathlib.Core.Bool.{Bool, cond, not, _&&_, _||_}
-use mathlib.Core.List.{List}
-use Prim.Native.Nat.{ℕ, _+_, _-_, _≤_, _<_}
+use mathlib.Core.List.{List, [], _++_}
+use Prim.Native.Nat.{ℕ, zero, suc, _+_, _-_, _≤_, _<_}
 use lib.Dec.{eqb, leb, ltb}
 use lib.IntN.{ℤ, pos, _-ℤ_}
 use lib.ListN.{length, getD}
@@ -13,9 +13,10 @@ use Rattle.series.specs.Series.{Series}
 use Rattle.inputs.specs.Inputs.{Inputs, sun, moon}
 use Rattle.inputs.specs.Known.{Known}
 use Rattle.months.specs.Limits.{yearInRange}
-use Rattle.turns.specs.Listed.{turnDay, turnsBy, turnsOf}
+use Rattle.turns.specs.Listed.{turnIndexOf, turnDay, turnsBy, turnsOf}
 use Rattle.turns.specs.declared.inner.TurnList.{TurnList}
 use Rattle.turns.specs.Searched.{Searched}
+use Rattle.sui.specs.theory.Found.{zhongqiFrom}
 use Rattle.sui.specs.theory.Solstices.{eve}
 use Rattle.suis.specs.declared.inner.Places.{Places}
 use Rattle.suis.specs.declared.inner.BeginAnswer.{BeginAnswer}
@@ -27,8 +28,14 @@ pub record Ahead (leap : List ℤ) (s : Series) (zone : ℤ) (from few : ℕ) (d
   pub inside : from + length days ≤ turnsOf s
   pub enough : length days < few → from + length days ≡ turnsOf s
 
--- what finding a sui asks: accepted inputs, the turns of both, the place of the year's first solstice, and the days ahead of it and of month 11's new moon
-pub record YearAhead (i : Inputs) (zone : ℤ) (suns moons : TurnList) (year : ℤ) (place : ℕ) (solstices newmoons : List ℤ) : Type 0 where
+-- the zhongqi days of m suis from a place on, one behind the other: thirteen each, from its first solstice to its second
+unfoldable pub zhongqiOf : List ℤ → Series → ℤ → ℕ → ℕ → List ℤ
+zhongqiOf leap s zone place zero = []
+zhongqiOf leap s zone place (suc m) = zhongqiOf leap s zone place m ++ zhongqiFrom leap s zone (turnIndexOf s (place + m))
+
+-- what finding a sui asks: accepted inputs, the turns of both, the place of the year's first solstice, the days ahead of it and of month 11's new moon, and its
+-- zhongqi days where both solstices are listed
+pub record YearAhead (i : Inputs) (zone : ℤ) (suns moons : TurnList) (year : ℤ) (place : ℕ) (solstices newmoons zhongqi : List ℤ) : Type 0 where
   pub is-known : Known i
   pub suns-searched : Searched (i .leap) (sun i) zone suns
   pub moons-searched : Searched (i .leap) (moon i) zone moons
@@ -36,6 +43,8 @@ pub record YearAhead (i : Inputs) (zone : ℤ) (suns moons : TurnList) (year : �
   pub solstices-ahead : Ahead (i .leap) (sun i) zone place 3 solstices
   pub some-moons : 0 < turnsBy (i .leap) (moon i) zone (turnDay (i .leap) (sun i) zone place)
   pub moons-ahead : Ahead (i .leap) (moon i) zone (turnsBy (i .leap) (moon i) zone (turnDay (i .leap) (sun i) zone place) - 1) 15 newmoons
+  pub thirteen : length zhongqi ≡ 13
+  pub are-zhongqi : suc place < turnsOf (sun i) → zhongqi ≡ zhongqiFrom (i .leap) (sun i) zone (turnIndexOf (sun i) place)
 
 -- how many of so many there are from a place on
 unfoldable pub fewer : ℕ → ℕ → ℕ → ℕ

@@ -5,3 +5,4 @@ pub mod Next
 pub mod Begun
 pub mod Within
 pub mod Each
+pub mod Zhongqi

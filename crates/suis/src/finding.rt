@@ -8,30 +8,28 @@ use series::Body;
 use times::Day;
 use times::Second;
 use turns::inner::TurnList;
-use turns::inner::turn_index;
 use turns::inner::turns_by;
 use whole::inner::add;
-use whole::inner::in_range;
 ghost use mathlib.Core.Path.{_≡_};
 ghost use mathlib.Core.Bool.{_&&_};
 ghost use Prim.Native.Nat.{_+_, _-_, _*_, _≤_, _<_};
 ghost use lib.IntN.{pos, _+ℤ_};
 ghost use lib.ListN.{length, getD};
 ghost use lib.Signed.{_≤ℤ_, _<ℤ_};
+ghost use Rattle.whole.specs.Lists.{placed};
 ghost use Rattle.whole.specs.Ranges.{Within};
 ghost use Rattle.series.specs.declared.Body.the-variants.{Sun, Moon};
 ghost use Rattle.series.specs.Series.{series};
 ghost use Rattle.marks.specs.Listed.{firstReached, lastReached};
-ghost use Rattle.inputs.specs.Inputs.{inputs, dayOfMark};
+ghost use Rattle.inputs.specs.Inputs.{dayOfMark};
 ghost use Rattle.inputs.specs.Known.{Ready};
 ghost use Rattle.months.specs.Months.{daysOf};
 ghost use Rattle.months.specs.Answers.{daysAnswer};
 ghost use Rattle.turns.specs.Listed.{turnDays, turnsBy, turnsOf};
 ghost use Rattle.turns.specs.Searched.{Searched};
-ghost use Rattle.sui.specs.Sui.{suiDays};
 ghost use Rattle.sui.specs.theory.Found.{zhongqiFrom};
 ghost use Rattle.sui.specs.theory.Solstices.{eve};
-ghost use Rattle.suis.specs.Ahead.{Ahead, YearAhead, oneMore, crowded};
+ghost use Rattle.suis.specs.Ahead.{Ahead, oneMore, crowded};
 
 // Whether day j of the list is not after `day`, and no further one is.
 fn one_more(days: &[i64], j: usize, day: i64) -> bool
@@ -51,7 +49,7 @@ fn one_more(days: &[i64], j: usize, day: i64) -> bool
 }
 
 // Whether the first of the days is the one of the year before, and the second the one of the year.
-fn one_in_each(solstices: &[i64], year: i64) -> bool
+pub fn one_in_each(solstices: &[i64], year: i64) -> bool
     requires { ⌜ Within 2500 year ⌝ }
     ensures { λ r. ⌜ r ≡ (oneMore (now (solstices .entry)) 0 (eve year) && oneMore (now (solstices .entry)) 1 (eve (year +ℤ pos 1))) ⌝ }
 {
@@ -93,7 +91,7 @@ fn zhongqi_between(
 }
 
 // The days of the thirteen zhongqi from one solstice to the next.
-fn zhongqi_days(
+pub fn zhongqi_days(
     leap: &[i64],
     start: Second,
     coefs: &[i64],
@@ -140,58 +138,40 @@ fn too_many(
 }
 
 // The days of the sui with these zhongqi days, by the days of the new moons from month 11 on: 14 of them tell, and one more that no month is left over.
-fn days_within(
+pub fn days_within(
     leap: &[i64],
     start: Second,
     coefs: &[i64],
     zone: i64,
     turns: TurnList,
     newmoons: &[i64],
-    zhongqi: [i64; 13],
+    zhongqi: &[i64],
 ) -> DaysAnswer
     requires { ⌜ Searched (now leap) (series Moon (start .0) (now coefs)) zone turns ⌝ }
-    requires { ⌜ (getD zhongqi 0 (pos 0)) ≤ℤ (getD zhongqi 12 (pos 0)) ⌝ }
-    requires { ⌜ 0 < turnsBy (now leap) (series Moon (start .0) (now coefs)) zone (getD zhongqi 0 (pos 0)) ⌝ }
-    requires { ⌜ Ahead (now leap) (series Moon (start .0) (now coefs)) zone (turnsBy (now leap) (series Moon (start .0) (now coefs)) zone (getD zhongqi 0 (pos 0)) - 1) 15 (now newmoons) ⌝ }
-    ensures { λ r. ⌜ r ≡ daysAnswer (daysOf (turnDays (now (leap .entry)) (series Moon (start .0) (now (coefs .entry))) zone) zhongqi) ⌝ }
+    requires { ⌜ length (now zhongqi) ≡ 13 ⌝ }
+    requires { ⌜ (getD (now zhongqi) 0 (pos 0)) ≤ℤ (getD (now zhongqi) 12 (pos 0)) ⌝ }
+    requires { ⌜ 0 < turnsBy (now leap) (series Moon (start .0) (now coefs)) zone (getD (now zhongqi) 0 (pos 0)) ⌝ }
+    requires { ⌜ Ahead (now leap) (series Moon (start .0) (now coefs)) zone (turnsBy (now leap) (series Moon (start .0) (now coefs)) zone (getD (now zhongqi) 0 (pos 0)) - 1) 15 (now newmoons) ⌝ }
+    ensures { λ r. ⌜ r ≡ daysAnswer (daysOf (turnDays (now (leap .entry)) (series Moon (start .0) (now (coefs .entry))) zone) (now (zhongqi .entry))) ⌝ }
 {
     if newmoons.len() < 15 {
-        return days_of(newmoons, &zhongqi);
+        return days_of(newmoons, zhongqi);
     }
     let last = zhongqi[12];
     if newmoons[14] <= last {
         return too_many(leap, start, coefs, zone, turns, last);
     }
-    days_of(&newmoons[..15], &zhongqi)
+    days_of(&newmoons[..15], zhongqi)
 }
 
-// The days of the sui of a year whose first solstice stands at a place.
-pub fn days_after(
-    leap: &[i64],
-    sunstart: Second,
-    sun: &[i64],
-    moonstart: Second,
-    moon: &[i64],
-    zone: i64,
-    suns: TurnList,
-    moons: TurnList,
-    year: i64,
-    place: usize,
-    solstices: &[i64],
-    newmoons: &[i64],
-) -> DaysAnswer
-    requires { ⌜ YearAhead (inputs (now leap) (sunstart .0) (now sun) (moonstart .0) (now moon)) zone suns moons year place (now solstices) (now newmoons) ⌝ }
-    ensures { λ r. ⌜ r ≡ daysAnswer (suiDays (inputs (now (leap .entry)) (sunstart .0) (now (sun .entry)) (moonstart .0) (now (moon .entry))) zone year) ⌝ }
+// Thirteen days, put into lent words.
+pub fn put_thirteen(out: &mut [i64], at: usize, days: [i64; 13])
+    requires { ⌜ at + 13 ≤ length (now out) ⌝ }
+    ensures { λ _. ⌜ now (out .exit) ≡ placed at days (now (out .entry)) ⌝ }
 {
-    if !in_range(1700, 2500, year) {
-        return no_days(refusals::NO_SUI);
+    let mut i: usize = 0;
+    while i < 13 {
+        out[at + i] = days[i];
+        i += 1;
     }
-    if !one_in_each(solstices, year) {
-        return no_days(refusals::NO_SUI);
-    }
-    let index = turn_index(Body::Sun, suns.first, place);
-    let first = solstices[0];
-    let last = solstices[1];
-    let zhongqi = zhongqi_days(leap, sunstart, sun, zone, index, first, last);
-    days_within(leap, moonstart, moon, zone, moons, newmoons, zhongqi)
 }

@@ -1,5 +1,10 @@
 // For builds of many suis: where the first one begins, the days ahead of it, and the sui of each year. The zone is in minutes.
-use super::finding::days_after;
+use super::finding::days_within;
+use super::finding::one_in_each;
+use super::finding::put_thirteen;
+use super::finding::zhongqi_days;
+use month_rule::inner::no_days;
+use months::DaysAnswer;
 use months::SuiAnswer;
 use one_sui::inner::eve;
 use refusals::Check;
@@ -8,22 +13,24 @@ use series::Body;
 use times::Second;
 use turns::inner::TurnList;
 use turns::inner::day_of_turn;
+use turns::inner::turn_index;
 use turns::inner::turns_by;
 use whole::inner::in_range;
 use whole::inner::subtract;
 ghost use mathlib.Core.Path.{_≡_};
 ghost use mathlib.Core.List.{_++_};
-ghost use Prim.Native.Nat.{_+_, _≤_};
+ghost use Prim.Native.Nat.{_+_, _*_, _≤_, _<_};
 ghost use lib.ListN.{length, drop};
+ghost use Rattle.whole.specs.Lists.{placed};
 ghost use Rattle.whole.specs.Tabulated.{tabulate};
 ghost use Rattle.series.specs.declared.Body.the-variants.{Sun, Moon};
 ghost use Rattle.series.specs.Series.{series};
 ghost use Rattle.inputs.specs.Inputs.{inputs};
-ghost use Rattle.months.specs.Answers.{suiAnswer};
+ghost use Rattle.months.specs.Answers.{daysAnswer, suiAnswer};
 ghost use Rattle.turns.specs.Listed.{turnDay};
 ghost use Rattle.turns.specs.Searched.{Searched};
-ghost use Rattle.sui.specs.Sui.{suiOfYear};
-ghost use Rattle.suis.specs.Ahead.{YearAhead, paperBegin, begun, fewer};
+ghost use Rattle.sui.specs.Sui.{suiDays, suiOfYear};
+ghost use Rattle.suis.specs.Ahead.{Ahead, YearAhead, zhongqiOf, paperBegin, begun, fewer};
 
 // The place of the first solstice of a sui among the Sun's, and of month 11's new moon among the Moon's.
 pub struct Places {
@@ -110,7 +117,64 @@ pub fn days_ahead(
     }
 }
 
-// The sui of a year whose first solstice stands at a place, from the days of solstices and new moons ahead of it.
+// The zhongqi days of m suis from the solstice at a place on, thirteen each. The solstices' own days are known.
+pub fn zhongqi_ahead(
+    leap: &[i64],
+    start: Second,
+    coefs: &[i64],
+    zone: i64,
+    suns: TurnList,
+    place: usize,
+    m: usize,
+    solstices: &[i64],
+    out: &mut [i64],
+)
+    requires { ⌜ Searched (now leap) (series Sun (start .0) (now coefs)) zone suns ⌝ }
+    requires { ⌜ Ahead (now leap) (series Sun (start .0) (now coefs)) zone place 0 (now solstices) ⌝ }
+    requires { ⌜ m < length (now solstices) ⌝ }
+    requires { ⌜ 13 * m ≤ length (now out) ⌝ }
+    ensures { λ _. ⌜ now (out .exit) ≡ placed 0 (zhongqiOf (now (leap .entry)) (series Sun (start .0) (now (coefs .entry))) zone place m) (now (out .entry)) ⌝ }
+{
+    let mut j: usize = 0;
+    while j < m {
+        let index = turn_index(Body::Sun, suns.first, place + j);
+        let first = solstices[j];
+        let last = solstices[j + 1];
+        let days = zhongqi_days(leap, start, coefs, zone, index, first, last);
+        put_thirteen(out, 13 * j, days);
+        j += 1;
+    }
+}
+
+// The days of the sui of a year whose first solstice stands at a place, from the days of solstices, new moons and zhongqi ahead of it.
+pub fn days_after(
+    leap: &[i64],
+    sunstart: Second,
+    sun: &[i64],
+    moonstart: Second,
+    moon: &[i64],
+    zone: i64,
+    suns: TurnList,
+    moons: TurnList,
+    year: i64,
+    place: usize,
+    solstices: &[i64],
+    newmoons: &[i64],
+    zhongqi: &[i64],
+) -> DaysAnswer
+    requires { ⌜ YearAhead (inputs (now leap) (sunstart .0) (now sun) (moonstart .0) (now moon)) zone suns moons year place (now solstices) (now newmoons) (now zhongqi) ⌝ }
+    ensures { λ r. ⌜ r ≡ daysAnswer (suiDays (inputs (now (leap .entry)) (sunstart .0) (now (sun .entry)) (moonstart .0) (now (moon .entry))) zone year) ⌝ }
+{
+    if !in_range(1700, 2500, year) {
+        return no_days(refusals::NO_SUI);
+    }
+    if !one_in_each(solstices, year) {
+        return no_days(refusals::NO_SUI);
+    }
+    days_within(leap, moonstart, moon, zone, moons, newmoons, zhongqi)
+}
+
+// The sui of a year whose first solstice stands at a place, from the days of solstices, new moons and zhongqi ahead of it.
 pub fn sui_after(
     leap: &[i64],
     sunstart: Second,
@@ -124,8 +188,9 @@ pub fn sui_after(
     place: usize,
     solstices: &[i64],
     newmoons: &[i64],
+    zhongqi: &[i64],
 ) -> SuiAnswer
-    requires { ⌜ YearAhead (inputs (now leap) (sunstart .0) (now sun) (moonstart .0) (now moon)) zone suns moons year place (now solstices) (now newmoons) ⌝ }
+    requires { ⌜ YearAhead (inputs (now leap) (sunstart .0) (now sun) (moonstart .0) (now moon)) zone suns moons year place (now solstices) (now newmoons) (now zhongqi) ⌝ }
     ensures { λ r. ⌜ r ≡ suiAnswer (suiOfYear (inputs (now (leap .entry)) (sunstart .0) (now (sun .entry)) (moonstart .0) (now (moon .entry))) zone year) ⌝ }
 {
     let found = days_after(
@@ -141,6 +206,7 @@ pub fn sui_after(
         place,
         solstices,
         newmoons,
+        zhongqi,
     );
     let check = found.check;
     if let Check::Refused(r) = check {

@@ -6,7 +6,7 @@ use native.Mathlib.Omega.{arith}
 use native.Mathlib.Decide.{decLt}
 use native.Mathlib.Nat.{zero-add}
 use lib.IntN.{ℤ, pos, _+ℤ_, _-ℤ_}
-use lib.ListN.{length, drop, length-append}
+use lib.ListN.{length, take, drop, length-append, length-drop}
 use lib.Seq.{length-take-le}
 use Rattle.whole.specs.Lists.{placed, placed-both, placed-length}
 use Rattle.whole.specs.Solver.{⇑, ring}
@@ -17,8 +17,9 @@ use Rattle.inputs.specs.Known.{Known}
 use Rattle.months.specs.declared.Sui.{Sui}
 use Rattle.turns.specs.declared.inner.TurnList.{TurnList}
 use Rattle.turns.specs.theory.Counting.{by-small}
-use Rattle.turns.specs.Listed.{turnDay, turnsBy, turnsOf}
+use Rattle.turns.specs.Listed.{turnIndexOf, turnDay, turnsBy, turnsOf}
 use Rattle.turns.specs.Searched.{Searched}
+use Rattle.sui.specs.theory.Found.{zhongqiFrom}
 use Rattle.sui.specs.theory.Solstices.{eve}
 use Rattle.suis.specs.declared.inner.Places.{Places}
 use Rattle.sui.specs.Sui.{suiOfYear}
@@ -41,11 +42,13 @@ pub record Begins (i : Inputs) (zone : ℤ) (suns moons : TurnList) (places : Pl
   pub some-years : 0 < n
   pub few-years : n ≤ 128
 
--- and the days ahead: as many as n suis can need, or all that are left
-pub record Walks (i : Inputs) (zone : ℤ) (suns moons : TurnList) (places : Places) (first : ℤ) (n : ℕ) (solstices newmoons : List ℤ) : Type 0 where
+-- and the days ahead: as many as n suis can need, or all that are left; of each sui whose solstices are both listed, the zhongqi between them
+pub record Walks (i : Inputs) (zone : ℤ) (suns moons : TurnList) (places : Places) (first : ℤ) (n : ℕ) (solstices newmoons zhongqi : List ℤ) : Type 0 where
   pub begun : Begins i zone suns moons places first n
   pub solstices-ahead : Ahead (i .leap) (sun i) zone (places .solstice) (n + 2) solstices
   pub moons-ahead : Ahead (i .leap) (moon i) zone (places .newmoon) (13 * n + 2) newmoons
+  pub zhongqi-room : 13 * n ≤ length zhongqi
+  pub zhongqi-ahead : (j : ℕ) → j < n → suc (places .solstice + j) < turnsOf (sun i) → take 13 (drop (13 * j) zhongqi) ≡ zhongqiFrom (i .leap) (sun i) zone (turnIndexOf (sun i) (places .solstice + j))
 
 -- ---- from year to year: the suis of the years before year j are found, their words are put, and they have `from` months
 pub record Walked (i : Inputs) (zone : ℤ) (places : Places) (first : ℤ) (suis₀ months₀ : List ℤ) (j from : ℕ) (suis months : List ℤ) : Type 0 where
@@ -92,10 +95,10 @@ module _ (i : Inputs) (zone : ℤ) (suns moons : TurnList) (places : Places) (fi
     pub sui-length : length (suiWords first (w .done)) ≡ 2 * j
     sui-length = length-sui-words first (w .done) ∙ ap (λ (k : ℕ). 2 * k) so-many
 
-    pub solstices-reach : j < n → {solstices newmoons : List ℤ} → Walks i zone suns moons places first n solstices newmoons → j ≤ length solstices
+    pub solstices-reach : j < n → {solstices newmoons zhongqi : List ℤ} → Walks i zone suns moons places first n solstices newmoons zhongqi → j ≤ length solstices
     solstices-reach h walks = reaches (walks .solstices-ahead) j (omega arith) (omega (arith, w .at-place, by-small (turnDay (i .leap) (sun i) zone) (eve (first +ℤ pos j -ℤ pos 1)) (turnsOf (sun i))))
 
-    pub moons-reach : j < n → {solstices newmoons : List ℤ} → Walks i zone suns moons places first n solstices newmoons → from ≤ length newmoons
+    pub moons-reach : j < n → {solstices newmoons zhongqi : List ℤ} → Walks i zone suns moons places first n solstices newmoons zhongqi → from ≤ length newmoons
     moons-reach h walks = reaches (walks .moons-ahead) from (omega (arith, w .few)) (omega (arith, w .at-moon, by-small (turnDay (i .leap) (moon i) zone) (turnDay (i .leap) (sun i) zone (places .solstice + j)) (turnsOf (moon i))))
 
     -- nothing is made longer or shorter
@@ -106,8 +109,8 @@ module _ (i : Inputs) (zone : ℤ) (suns moons : TurnList) (places : Places) (fi
     month-room room h = ap length (w .month-words) ∙ placed-length months₀ (monthWords (w .done)) 0 (omega (arith, w .counted, w .few))
 
     -- what finding the sui of year j asks
-    pub year-ahead : j < n → {solstices newmoons : List ℤ} → Walks i zone suns moons places first n solstices newmoons → YearAhead i zone suns moons (first +ℤ pos j) (places .solstice + j) (drop j solstices) (drop from newmoons)
-    year-ahead h {solstices} {newmoons} walks =
+    pub year-ahead : j < n → {solstices newmoons zhongqi : List ℤ} → Walks i zone suns moons places first n solstices newmoons zhongqi → YearAhead i zone suns moons (first +ℤ pos j) (places .solstice + j) (drop j solstices) (drop from newmoons) (take 13 (drop (13 * j) zhongqi))
+    year-ahead h {solstices} {newmoons} {zhongqi} walks =
         let here = w .at-place in
         let moon-here = w .at-moon in
         let month-eleven : places .newmoon + from ≡ turnsBy (i .leap) (moon i) zone (turnDay (i .leap) (sun i) zone (places .solstice + j)) - 1 = omega arith in
@@ -119,6 +122,8 @@ module _ (i : Inputs) (zone : ℤ) (suns moons : TurnList) (places : Places) (fi
           solstices-ahead = ahead-drop (walks .solstices-ahead) j 3 (solstices-reach h walks) (omega arith);
           some-moons = omega arith;
           moons-ahead = rw (← month-eleven) (ahead-drop (walks .moons-ahead) from 15 (moons-reach h walks) (omega (arith, w .few)));
+          thirteen = length-take-le 13 (drop (13 * j) zhongqi) (omega (arith, length-drop (13 * j) zhongqi, walks .zhongqi-room));
+          are-zhongqi = walks .zhongqi-ahead j h;
         }
 
     -- the sui of year j is found, and its words are put
@@ -171,9 +176,9 @@ module _ (i : Inputs) (zone : ℤ) (suns moons : TurnList) (places : Places) (fi
   walk-stops {j} w e h = suis-refused i zone first j n (w .found) e h
 
 -- ---- what the loop over the years holds, before year j
-pub record AtYear (i : Inputs) (zone : ℤ) (suns moons : TurnList) (first : ℤ) (n : ℕ) (solstices newmoons suis₀ months₀ : List ℤ) (place j from : ℕ) (suis months : List ℤ) : Type 0 where
+pub record AtYear (i : Inputs) (zone : ℤ) (suns moons : TurnList) (first : ℤ) (n : ℕ) (solstices newmoons zhongqi suis₀ months₀ : List ℤ) (place j from : ℕ) (suis months : List ℤ) : Type 0 where
   pub places : Places
-  pub walks : Walks i zone suns moons places first n solstices newmoons
+  pub walks : Walks i zone suns moons places first n solstices newmoons zhongqi
   pub is-place : places .solstice ≡ place
   pub walked : Walked i zone places first suis₀ months₀ j from suis months
   pub in-turn : j ≤ n

@@ -88,6 +88,10 @@ ahead-drop {leap} {s} {zone} {from} {few} {days} ahead j fewer h l =
     f : ℕ → ℤ
     f k = turnDay leap s zone (from + k)
 
+-- they are the days ahead, however few are asked for
+pub ahead-any : {leap : List ℤ} {s : Series} {zone : ℤ} {from few : ℕ} {days : List ℤ} → Ahead leap s zone from few days → Ahead leap s zone from 0 days
+ahead-any ahead = record { are-days = ahead .are-days; inside = ahead .inside; enough = λ none. absurd (omega arith) }
+
 -- ---- as many as there are, up to so many
 pub record Fewer (listed from most few : ℕ) : Type 0 where
   pub listed-all : from + few ≤ listed

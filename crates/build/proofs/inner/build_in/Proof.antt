@@ -10,7 +10,7 @@ use Rattle.build.proofs.inner.build_in.Statement.{statement}
 use Rattle.build.proofs.inner.build_in.Tie as tie
 use Rattle.build.proofs.inner.build_in.Reads as reads
 use Rattle.build.proofs.inner.build_in.Lts as lts
-use Rattle.build.proofs.ahead.build_at.Reads as build-at-reads
+use Rattle.build.proofs.inner.ahead.build_at.Reads as build-at-reads
 use Rattle.suis.proofs.inner.begin.Reads as begin-reads
 use Rattle.turns.proofs.inner.turns_of.Reads as turns-of-reads
 

@@ -33,11 +33,11 @@ use Rattle.whole.proofs.inner.add.Reads as add-reads
 use Rattle.whole.proofs.inner.signed.Reads as signed-reads
 
 abbrev Inv-loop : tie.InvT-loop
-Inv-loop leap sunstart sun moonstart moon zone suns moons first n solstices newmoons suis₀ months₀ place j₀ from₀ suis months j from =
-    AtYear (inputs leap (sunstart .0) sun (moonstart .0) moon) (toZ w64 zone) suns moons (toZ w64 first) n solstices newmoons suis₀ months₀ place j from suis months
+Inv-loop leap sunstart sun moonstart moon zone suns moons first n solstices newmoons zhongqi suis₀ months₀ place j₀ from₀ suis months j from =
+    AtYear (inputs leap (sunstart .0) sun (moonstart .0) moon) (toZ w64 zone) suns moons (toZ w64 first) n solstices newmoons zhongqi suis₀ months₀ place j from suis months
 
 abbrev μ-loop : tie.MeasureT-loop
-μ-loop leap sunstart sun moonstart moon zone suns moons first n solstices newmoons suis₀ months₀ place j₀ from₀ suis months j from = n - j
+μ-loop leap sunstart sun moonstart moon zone suns moons first n solstices newmoons zhongqi suis₀ months₀ place j₀ from₀ suis months j from = n - j
 
 abbrev called : lts.Claims
 called = (signed-reads.Asked, signed-reads.Learnt, add-reads.Asked, add-reads.Learnt, put-year-reads.Asked, put-year-reads.Learnt)
@@ -55,7 +55,7 @@ inputs-of start = let a = start .args in inputs (a .leap .now) (a .sunstart .0) 
 abbrev AtTurn : Start → ℕ → ℕ → List ℤ → List ℤ → Type 0
 AtTurn start j from suis months =
     let a = start .args in
-    AtYear (inputs-of start) (a .zone) (a .suns) (a .moons) (a .first) (a .n) (a .solstices .now) (a .newmoons .now) (a .suis .now) (a .months .now) (a .places .solstice) j from suis months
+    AtYear (inputs-of start) (a .zone) (a .suns) (a .moons) (a .first) (a .n) (a .solstices .now) (a .newmoons .now) (a .zhongqi .now) (a .suis .now) (a .months .now) (a .places .solstice) j from suis months
 
 at-turn : (c : Loop) → AtTurn (c .before) (c .loop .j) (c .loop .from) (c .loop .suis) (c .loop .months)
 at-turn c = rw (toZ-ofZ (c .before .fits .zone), toZ-ofZ (c .before .fits .first)) at (c .loop .inv)
@@ -81,7 +81,7 @@ solstices-there c h = let a = c .before .args in let t = at-turn c in solstices-
 moons-there : (c : Loop) → c .loop .j < c .before .args .n → c .loop .from ≤ length (c .before .args .newmoons .now)
 moons-there c h = let a = c .before .args in let t = at-turn c in moons-reach (inputs-of (c .before)) (a .zone) (a .suns) (a .moons) (t .places) (a .first) (a .n) (t .walks .begun) (a .suis .now) (a .months .now) (t .walked) h (t .walks)
 
-ahead-of : (c : Loop) → c .loop .j < c .before .args .n → (let a = c .before .args in YearAhead (inputs-of (c .before)) (a .zone) (a .suns) (a .moons) (a .first +ℤ pos (c .loop .j)) (a .places .solstice + c .loop .j) (drop (c .loop .j) (a .solstices .now)) (drop (c .loop .from) (a .newmoons .now)))
+ahead-of : (c : Loop) → c .loop .j < c .before .args .n → (let a = c .before .args in YearAhead (inputs-of (c .before)) (a .zone) (a .suns) (a .moons) (a .first +ℤ pos (c .loop .j)) (a .places .solstice + c .loop .j) (drop (c .loop .j) (a .solstices .now)) (drop (c .loop .from) (a .newmoons .now)) (take 13 (drop (13 * c .loop .j) (a .zhongqi .now))))
 ahead-of c h =
     let a = c .before .args in
     let t = at-turn c in
@@ -105,17 +105,17 @@ abbrev Put : Type 0
 Put = lts.After-put-year called reads.Pre reads.Post Inv-loop μ-loop
 
 abbrev loop-of : Put → Loop
-loop-of c = c .before .before .before .before .before .before .before .before
+loop-of c = c .before .before .before .before .before .before .before .before .before
 
 abbrev taken-of : (c : Put) → loop-of c .loop .j < loop-of c .before .args .n
-taken-of c = c .before .before .before .before .before .before .before .loop-test .taken
+taken-of c = c .before .before .before .before .before .before .before .before .loop-test .taken
 
 -- the sui of year j
 abbrev sui-of : Loop → Verdict Sui
 sui-of c = suiOfYear (inputs-of (c .before)) (c .before .args .zone) (c .before .args .first +ℤ pos (c .loop .j))
 
 says : (c : Put) → (paperYear (c .put-year .result) ≡ monthsOf (sui-of (loop-of c)))
-says c = (rw (toZ-ofZ (loop-of c .before .fits .zone), at-added (c .before .before .before .before .before)) at (c .put-year .ensures)) .0
+says c = (rw (toZ-ofZ (loop-of c .before .fits .zone), at-added (c .before .before .before .before .before .before)) at (c .put-year .ensures)) .0
 
 -- refused, by why
 refused-by : (c : Put) {r : Refusal} → c .put-year .result ≡ Refused r → sui-of (loop-of c) ≡ refusal r
@@ -171,12 +171,34 @@ part-put-year-start-2 c = moons-there (c .before .before .before .before) (c .be
 part-put-year-end-2 : tie.Need-part-put-year-end-2 Inv-loop μ-loop
 part-put-year-end-2 c = omega arith
 
+mul-put-year-3 : tie.Need-mul-put-year-3 Inv-loop μ-loop
+mul-put-year-3 c = record { fits = omega (arith, few (c .before .before .before .before .before)) }
+
+mul-put-year-4 : tie.Need-mul-put-year-4 Inv-loop μ-loop
+mul-put-year-4 c = record { fits = omega (arith, few (c .before .before .before .before .before)) }
+
+add-put-year-2 : tie.Need-add-put-year-2 Inv-loop μ-loop
+add-put-year-2 c = record { fits = omega (arith, few (c .before .before .before .before .before)) }
+
+mul-put-year-5 : tie.Need-mul-put-year-5 Inv-loop μ-loop
+mul-put-year-5 c = record { fits = omega (arith, few (c .before .before .before .before .before)) }
+
+sub-put-year-3 : tie.Need-sub-put-year-3 Inv-loop μ-loop
+sub-put-year-3 c = omega arith
+
+part-put-year-start-3 : tie.Need-part-put-year-start-3 Inv-loop μ-loop
+part-put-year-start-3 c = omega arith
+
+part-put-year-end-3 : tie.Need-part-put-year-end-3 Inv-loop μ-loop
+part-put-year-end-3 c = let loop = c .before .before .before .before .before in omega (arith, c .before .before .before .before .loop-test .taken, at-turn loop .walks .zhongqi-room)
+
 put-year-requires : tie.Need-put-year-requires Inv-loop μ-loop
 put-year-requires c κs =
-    let turn = c .before .before .before .before .before .before in
+    let turn = c .before .before .before .before .before .before .before in
     let loop = turn .before in
     let a = loop .before .args in
-    rw (toZ-ofZ (loop .before .fits .zone), at-added (c .before .before .before .before), rest (a .solstices .now) (loop .loop .j), rest (a .newmoons .now) (loop .loop .from))
+    let thirteen : 13 * loop .loop .j + 13 - 13 * loop .loop .j ≡ 13 = omega arith in
+    rw (toZ-ofZ (loop .before .fits .zone), at-added (c .before .before .before .before .before), rest (a .solstices .now) (loop .loop .j), rest (a .newmoons .now) (loop .loop .from), thirteen)
     (ahead-of loop (turn .loop-test .taken), (omega (arith, few loop, turn .loop-test .taken), (omega (arith, few loop, turn .loop-test .taken), (omega (arith, few loop, turn .loop-test .taken, rooms loop, loop .before .pre .1 .0), omega (arith, few loop, turn .loop-test .taken, rooms loop, loop .before .pre .1 .1)))))
 
 enum-known-put : tie.Need-enum-known-put Inv-loop μ-loop
@@ -186,13 +208,13 @@ same-length : tie.Need-same-length Inv-loop μ-loop
 same-length c =
     let put = c .before .before .before .before .before in
     let loop = loop-of put in
-    ap length (rw (toZ-ofZ (loop .before .fits .zone), at-added (put .before .before .before .before .before), refused-by put (c .before .put .given .1)) at (put .put-year .ensures .1 .0)) ∙ rooms loop .0
+    ap length (rw (toZ-ofZ (loop .before .fits .zone), at-added (put .before .before .before .before .before .before), refused-by put (c .before .put .given .1)) at (put .put-year .ensures .1 .0)) ∙ rooms loop .0
 
 same-length-2 : tie.Need-same-length-2 Inv-loop μ-loop
 same-length-2 c =
     let put = c .before .before .before .before .before in
     let loop = loop-of put in
-    ap length (rw (toZ-ofZ (loop .before .fits .zone), at-added (put .before .before .before .before .before), refused-by put (c .before .put .given .1)) at (put .put-year .ensures .1 .1)) ∙ rooms loop .1
+    ap length (rw (toZ-ofZ (loop .before .fits .zone), at-added (put .before .before .before .before .before .before), refused-by put (c .before .put .given .1)) at (put .put-year .ensures .1 .1)) ∙ rooms loop .1
 
 returns : tie.Need-returns Inv-loop μ-loop
 returns c =
@@ -229,7 +251,7 @@ loop-again c =
     let t = at-turn loop in
     let turn = taken-of put in
     let found = found-with put (c .before .put2 .given .1) in
-    let words = rw (toZ-ofZ (start .fits .zone), at-added (put .before .before .before .before .before), found .1) at (put .put-year .ensures .1) in
+    let words = rw (toZ-ofZ (start .fits .zone), at-added (put .before .before .before .before .before .before), found .1) at (put .put-year .ensures .1) in
     let goes-on = walk-goes-on (inputs-of start) (a .zone) (a .suns) (a .moons) (t .places) (a .first) (a .n) (t .walks .begun) (a .suis .now) (a .months .now) (t .walked) (found .1) (omega (arith, turn, start .pre .1 .0)) (omega (arith, turn, few loop, start .pre .1 .1)) (words .0) (words .1) in
     rw (toZ-ofZ (start .fits .zone), toZ-ofZ (start .fits .first)) (record { places = t .places; walks = t .walks; is-place = t .is-place; walked = rw (found .2) at goes-on; in-turn = omega (arith, turn) })
 
@@ -265,6 +287,13 @@ put-years-spec =
     sub-put-year-2
     part-put-year-start-2
     part-put-year-end-2
+    mul-put-year-3
+    mul-put-year-4
+    add-put-year-2
+    mul-put-year-5
+    sub-put-year-3
+    part-put-year-start-3
+    part-put-year-end-3
     put-year-requires
     enum-known-put
     same-length

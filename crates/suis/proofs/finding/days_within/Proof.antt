@@ -35,7 +35,7 @@ abbrev series-of : Start → Series
 series-of start = series Moon (start .args .start .0) (start .args .coefs .now)
 
 abbrev zhongqi-of : Start → List ℤ
-zhongqi-of start = start .args .t7
+zhongqi-of start = start .args .zhongqi .now
 
 -- the fifteenth new moon's day, compared with the second solstice's
 by-last : (c : lts.Then2 called reads.Pre reads.Post) → (let start = c .before .before .before .before in getD (start .args .newmoons .now) 14 (pos 0) ≤ℤ getD (zhongqi-of start) 12 (pos 0))
@@ -54,20 +54,17 @@ behind-last c =
 
 -- ---- the needs
 
-slice-aggregate-days-of : tie.Need-slice-aggregate-days-of
-slice-aggregate-days-of c = search needs
-
 days-of-requires : tie.Need-days-of-requires
 days-of-requires c κs = search needs
 
 returns : tie.Need-returns
 returns c =
-    let start = c .before .before .before in
+    let start = c .before .before in
     let a = start .args in
-    c .days-of .ensures ∙ ap daysAnswer (short-part (a .leap .now) (series-of start) (a .zone) (start .pre .0 .ready) (zhongqi-of start) (start .pre .1 .0) (start .pre .1 .1 .0) (start .pre .1 .1 .1) (c .before .before .if1 .taken))
+    c .days-of .ensures ∙ ap daysAnswer (short-part (a .leap .now) (series-of start) (a .zone) (start .pre .0 .ready) (zhongqi-of start) (start .pre .1 .1 .0) (start .pre .1 .1 .1 .0) (start .pre .1 .1 .1 .1) (c .before .if1 .taken))
 
-array-copy-out-last : tie.Need-array-copy-out-last
-array-copy-out-last c = search needs
+shared-slice-copy-out-last : tie.Need-shared-slice-copy-out-last
+shared-slice-copy-out-last c = search needs
 
 shared-slice-copy-out-if2 : tie.Need-shared-slice-copy-out-if2
 shared-slice-copy-out-if2 c = search needs
@@ -82,37 +79,32 @@ returns-2 c =
     let a = start .args in
     let g : SFits w64 (getD (zhongqi-of start) 12 (pos 0)) = search needs in
     (rw (toZ-ofZ (start .fits .zone), toZ-ofZ g) at (c .too-many .ensures))
-    ∙ ap daysAnswer (crowded-part (a .leap .now) (series-of start) (a .zone) (start .pre .0 .ready) (zhongqi-of start) (start .pre .1 .0) (start .pre .1 .1 .0) (start .pre .1 .1 .1) (crowd .before .before .before .if1 .left) (by-last crowd))
+    ∙ ap daysAnswer (crowded-part (a .leap .now) (series-of start) (a .zone) (start .pre .0 .ready) (zhongqi-of start) (start .pre .1 .1 .0) (start .pre .1 .1 .1 .0) (start .pre .1 .1 .1 .1) (crowd .before .before .before .if1 .left) (by-last crowd))
 
-slice-aggregate-days-of-2 : tie.Need-slice-aggregate-days-of-2
-slice-aggregate-days-of-2 c = let start = c .before .before .before .before .before in sym (length-take-le 15 (start .args .newmoons .now) (c .before .before .before .before .if1 .left))
-
-slice-aggregate-days-of-3 : tie.Need-slice-aggregate-days-of-3
-slice-aggregate-days-of-3 c = search needs
+slice-aggregate-days-of : tie.Need-slice-aggregate-days-of
+slice-aggregate-days-of c = let start = c .before .before .before .before .before in sym (length-take-le 15 (start .args .newmoons .now) (c .before .before .before .before .if1 .left))
 
 days-of-requires-2 : tie.Need-days-of-requires-2
 days-of-requires-2 c κs = search needs
 
 returns-3 : tie.Need-returns-3
 returns-3 c =
-    let later = c .before .before .before in
+    let later = c .before .before in
     let start = later .before .before .before .before in
     let a = start .args in
     c .days-of2 .ensures
-    ∙ ap daysAnswer (long-part (a .leap .now) (series-of start) (a .zone) (start .pre .0 .ready) (zhongqi-of start) (start .pre .1 .0) (start .pre .1 .1 .0) (start .pre .1 .1 .1) (later .before .before .before .if1 .left) (behind-last later))
+    ∙ ap daysAnswer (long-part (a .leap .now) (series-of start) (a .zone) (start .pre .0 .ready) (zhongqi-of start) (start .pre .1 .1 .0) (start .pre .1 .1 .1 .0) (start .pre .1 .1 .1 .1) (later .before .before .before .if1 .left) (behind-last later))
 
 pub days-within-spec : {M : Type 1} → statement M
 days-within-spec =
     tie.close
     (tie.spec
-    slice-aggregate-days-of
     days-of-requires
     returns
-    array-copy-out-last
+    shared-slice-copy-out-last
     shared-slice-copy-out-if2
     too-many-requires
     returns-2
-    slice-aggregate-days-of-2
-    slice-aggregate-days-of-3
+    slice-aggregate-days-of
     days-of-requires-2
     returns-3)

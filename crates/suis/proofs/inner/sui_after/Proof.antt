@@ -17,7 +17,7 @@ use Rattle.suis.proofs.inner.sui_after.Reads as reads
 use Rattle.suis.proofs.inner.sui_after.Lts as lts
 use Rattle.month_rule.proofs.inner.no_sui.Reads as no-sui-reads
 use Rattle.month_rule.proofs.inner.sui_of.Reads as sui-of-reads
-use Rattle.suis.proofs.finding.days_after.Reads as days-after-reads
+use Rattle.suis.proofs.inner.days_after.Reads as days-after-reads
 
 abbrev called : lts.Claims
 called = (days-after-reads.Asked, days-after-reads.Learnt, no-sui-reads.Asked, no-sui-reads.Learnt, sui-of-reads.Asked, sui-of-reads.Learnt)

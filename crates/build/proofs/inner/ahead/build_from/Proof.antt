@@ -1,4 +1,4 @@
--- `build::ahead::build_from` meets its contract. In the needs, `start` is the function's entry. Assumes nothing.
+-- `build::inner::ahead::build_from` meets its contract. In the needs, `start` is the function's entry. Assumes nothing.
 use mathlib.Core.Path.{_≡_, refl, sym, ap, _∙_}
 use mathlib.Core.List.{List}
 use Prim.Native.Nat.{ℕ, _*_, _/_, _≤_}
@@ -15,12 +15,12 @@ use Rattle.build.specs.Build.{suisFrom, monthWords}
 use Rattle.build.specs.theory.Put.{paperYears, monthsIn}
 use Rattle.build.specs.theory.File.{months-few, years-refused, years-found, years-stop, front-suis, sui-length, month-length, front-months, words-lawful, words-written}
 use borrow.Author.Needs.{needs}
-use Rattle.build.proofs.ahead.build_from.Statement.{statement}
-use Rattle.build.proofs.ahead.build_from.Tie as tie
-use Rattle.build.proofs.ahead.build_from.Reads as reads
-use Rattle.build.proofs.ahead.build_from.Lts as lts
+use Rattle.build.proofs.inner.ahead.build_from.Statement.{statement}
+use Rattle.build.proofs.inner.ahead.build_from.Tie as tie
+use Rattle.build.proofs.inner.ahead.build_from.Reads as reads
+use Rattle.build.proofs.inner.ahead.build_from.Lts as lts
 use Rattle.almanac.proofs.inner.write_lawful.Reads as write-lawful-reads
-use Rattle.build.proofs.ahead.sui_words.Reads as sui-words-reads
+use Rattle.build.proofs.inner.ahead.sui_words.Reads as sui-words-reads
 use Rattle.build.proofs.years.put_years.Reads as put-years-reads
 
 abbrev called : lts.Claims

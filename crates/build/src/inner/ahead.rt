@@ -1,17 +1,18 @@
-// The days of the solstices and new moons that the suis share, found once and kept; and the records of the suis, kept until they are written.
-use super::years::YearsAnswer;
-use super::years::put_years;
+// The days of solstices, new moons and zhongqi that n suis need, found once and kept; and the records of the suis, kept until they are written.
+use crate::years::YearsAnswer;
+use crate::years::put_years;
 use almanac::WriteAnswer;
 use almanac::inner::write_lawful;
 use series::Body;
 use suis::inner::Places;
 use suis::inner::days_ahead;
 use suis::inner::fewer;
+use suis::inner::zhongqi_ahead;
 use times::Second;
 use turns::inner::TurnList;
 ghost use mathlib.Core.Path.{_≡_};
 ghost use Prim.Native.Nat.{_+_, _*_, _≤_, _<_};
-ghost use lib.ListN.{length};
+ghost use lib.ListN.{length, take};
 ghost use Rattle.refusals.specs.Lent.{writtenInto};
 ghost use Rattle.inputs.specs.Inputs.{inputs};
 ghost use Rattle.almanac.specs.Answers.{paperWritten, bytesCounted, all-bytes};
@@ -31,6 +32,13 @@ fn newmoon_days() -> [i64; 1666]
     [0; 1666]
 }
 
+// Thirteen zhongqi each.
+fn zhongqi_days() -> [i64; 1664]
+    ensures { λ r. ⌜ 1664 ≡ length r ⌝ }
+{
+    [0; 1664]
+}
+
 // Room for their records: two words a sui.
 fn sui_words() -> [i64; 256]
     ensures { λ r. ⌜ 256 ≡ length r ⌝ }
@@ -38,8 +46,80 @@ fn sui_words() -> [i64; 256]
     [0; 256]
 }
 
+// How many solstices and how many new moons were found.
+pub struct Reach {
+    pub solstices: usize,
+    pub newmoons: usize,
+}
+
+// The days ahead of n suis, from where the first begins: as many as they can need, or all that are left.
+pub fn find_ahead(
+    leap: &[i64],
+    sunstart: Second,
+    sun: &[i64],
+    moonstart: Second,
+    moon: &[i64],
+    zone: i64,
+    suns: TurnList,
+    moons: TurnList,
+    places: Places,
+    first: i64,
+    n: usize,
+    solstices: &mut [i64],
+    newmoons: &mut [i64],
+    zhongqi: &mut [i64],
+) -> Reach
+    requires { ⌜ Begins (inputs (now leap) (sunstart .0) (now sun) (moonstart .0) (now moon)) zone suns moons places first n ⌝ }
+    requires { ⌜ n + 2 ≤ length (now solstices) ⌝ }
+    requires { ⌜ 13 * n + 2 ≤ length (now newmoons) ⌝ }
+    requires { ⌜ 13 * n ≤ length (now zhongqi) ⌝ }
+    ensures { λ r. ⌜ (r .solstices ≤ n + 2) × (r .newmoons ≤ 13 * n + 2) ⌝ }
+    ensures { λ r. ⌜ Walks (inputs (now (leap .entry)) (sunstart .0) (now (sun .entry)) (moonstart .0) (now (moon .entry))) zone suns moons places first n (take (r .solstices) (now (solstices .exit))) (take (r .newmoons) (now (newmoons .exit))) (now (zhongqi .exit)) ⌝ }
+{
+    let s = fewer(suns.count, places.solstice, n + 2);
+    days_ahead(
+        leap,
+        Body::Sun,
+        sunstart,
+        sun,
+        zone,
+        suns,
+        places.solstice,
+        s,
+        solstices,
+    );
+    let m = fewer(moons.count, places.newmoon, 13 * n + 2);
+    days_ahead(
+        leap,
+        Body::Moon,
+        moonstart,
+        moon,
+        zone,
+        moons,
+        places.newmoon,
+        m,
+        newmoons,
+    );
+    let suis = fewer(s, 1, n);
+    zhongqi_ahead(
+        leap,
+        sunstart,
+        sun,
+        zone,
+        suns,
+        places.solstice,
+        suis,
+        &solstices[..s],
+        zhongqi,
+    );
+    Reach {
+        solstices: s,
+        newmoons: m,
+    }
+}
+
 // The file, by the days ahead.
-fn build_from(
+pub fn build_from(
     leap: &[i64],
     sunstart: Second,
     sun: &[i64],
@@ -53,9 +133,10 @@ fn build_from(
     n: usize,
     solstices: &[i64],
     newmoons: &[i64],
+    zhongqi: &[i64],
     file: &mut [u8],
 ) -> WriteAnswer
-    requires { ⌜ Walks (inputs (now leap) (sunstart .0) (now sun) (moonstart .0) (now moon)) zone suns moons places first n (now solstices) (now newmoons) ⌝ }
+    requires { ⌜ Walks (inputs (now leap) (sunstart .0) (now sun) (moonstart .0) (now moon)) zone suns moons places first n (now solstices) (now newmoons) (now zhongqi) ⌝ }
     ensures { λ r. ⌜ paperWritten r ≡ bytesCounted (bytesOfYears (inputs (now (leap .entry)) (sunstart .0) (now (sun .entry)) (moonstart .0) (now (moon .entry))) zone first n (length (now (file .entry)))) ⌝ }
     ensures { λ r. ⌜ now (file .exit) ≡ writtenInto (bytesOfYears (inputs (now (leap .entry)) (sunstart .0) (now (sun .entry)) (moonstart .0) (now (moon .entry))) zone first n (length (now (file .entry)))) all-bytes (now (file .entry)) ⌝ }
 {
@@ -76,6 +157,7 @@ fn build_from(
         n,
         solstices,
         newmoons,
+        zhongqi,
         &mut suis,
         &mut months,
     );
@@ -104,31 +186,24 @@ pub fn build_at(
     ensures { λ r. ⌜ paperWritten r ≡ bytesCounted (bytesOfYears (inputs (now (leap .entry)) (sunstart .0) (now (sun .entry)) (moonstart .0) (now (moon .entry))) zone first n (length (now (file .entry)))) ⌝ }
     ensures { λ r. ⌜ now (file .exit) ≡ writtenInto (bytesOfYears (inputs (now (leap .entry)) (sunstart .0) (now (sun .entry)) (moonstart .0) (now (moon .entry))) zone first n (length (now (file .entry)))) all-bytes (now (file .entry)) ⌝ }
 {
-    let s = fewer(suns.count, places.solstice, n + 2);
     let mut solstices = solstice_days();
-    days_ahead(
+    let mut newmoons = newmoon_days();
+    let mut zhongqi = zhongqi_days();
+    let found = find_ahead(
         leap,
-        Body::Sun,
         sunstart,
         sun,
-        zone,
-        suns,
-        places.solstice,
-        s,
-        &mut solstices,
-    );
-    let m = fewer(moons.count, places.newmoon, 13 * n + 2);
-    let mut newmoons = newmoon_days();
-    days_ahead(
-        leap,
-        Body::Moon,
         moonstart,
         moon,
         zone,
+        suns,
         moons,
-        places.newmoon,
-        m,
+        places,
+        first,
+        n,
+        &mut solstices,
         &mut newmoons,
+        &mut zhongqi,
     );
     build_from(
         leap,
@@ -142,8 +217,9 @@ pub fn build_at(
         places,
         first,
         n,
-        &solstices[..s],
-        &newmoons[..m],
+        &solstices[..found.solstices],
+        &newmoons[..found.newmoons],
+        &zhongqi,
         file,
     )
 }

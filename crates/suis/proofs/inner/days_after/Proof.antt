@@ -1,4 +1,4 @@
--- `suis::finding::days_after` meets its contract. In the needs, `start` is the function's entry. Assumes nothing.
+-- `suis::inner::days_after` meets its contract. In the needs, `start` is the function's entry. Assumes nothing.
 use mathlib.Core.Path.{_≡_, sym, ap, ap₂, _∙_}
 use mathlib.Core.Bool.{true}
 use mathlib.Core.List.{List}
@@ -7,8 +7,7 @@ use native.Mathlib.Omega.{arith}
 use borrow.Author.Needs.{needs}
 use borrow.Author.Tests.{not-true, not-false}
 use lib.IntN.{ℤ, pos, _+ℤ_, _-ℤ_}
-use lib.ListN.{length, getD}
-use lib.Signed.{_≤ℤ_}
+use lib.ListN.{length}
 use mir.Syntax.{w64}
 use mir.Val.{SFits, ofZ, toZ}
 use mir.Facts.{toZ-ofZ}
@@ -22,21 +21,17 @@ use Rattle.months.specs.Limits.{yearInRange}
 use Rattle.months.specs.Months.{firstSolstice, secondSolstice, daysOf}
 use Rattle.months.specs.Answers.{daysAnswer}
 use Rattle.months.specs.theory.Kept.{year-small}
-use Rattle.turns.specs.declared.inner.TurnList.{TurnList}
-use Rattle.turns.specs.Listed.{turnIndexOf, turn-after, turnDay, turnDays, turnsBy}
-use Rattle.turns.specs.Searched.{turn-fits, circles-small}
+use Rattle.turns.specs.Listed.{turnIndexOf, turnDays, turnsOf}
 use Rattle.sui.specs.theory.Found.{oneInEach, zhongqiFrom, found-when, missing-when, out-of-range, sui-days-are}
-use Rattle.suis.specs.theory.Each.{each-is, both-listed, both-ahead, first-day, last-day, to-the-last}
+use Rattle.suis.specs.theory.Each.{each-is, both-listed}
 use Rattle.suis.specs.theory.Next.{first-is-turn, solstices-in-order}
-use Rattle.suis.proofs.finding.days_after.Statement.{statement}
-use Rattle.suis.proofs.finding.days_after.Tie as tie
-use Rattle.suis.proofs.finding.days_after.Reads as reads
-use Rattle.suis.proofs.finding.days_after.Lts as lts
+use Rattle.suis.proofs.inner.days_after.Statement.{statement}
+use Rattle.suis.proofs.inner.days_after.Tie as tie
+use Rattle.suis.proofs.inner.days_after.Reads as reads
+use Rattle.suis.proofs.inner.days_after.Lts as lts
 use Rattle.month_rule.proofs.inner.no_days.Reads as no-days-reads
 use Rattle.suis.proofs.finding.days_within.Reads as days-within-reads
 use Rattle.suis.proofs.finding.one_in_each.Reads as one-in-each-reads
-use Rattle.suis.proofs.finding.zhongqi_days.Reads as zhongqi-days-reads
-use Rattle.turns.proofs.inner.turn_index.Reads as turn-index-reads
 use Rattle.whole.proofs.inner.in_range.Reads as in-range-reads
 
 abbrev called : lts.Claims
@@ -47,10 +42,6 @@ called = (
   no-days-reads.Learnt,
   one-in-each-reads.Asked,
   one-in-each-reads.Learnt,
-  turn-index-reads.Asked,
-  turn-index-reads.Learnt,
-  zhongqi-days-reads.Asked,
-  zhongqi-days-reads.Learnt,
   days-within-reads.Asked,
   days-within-reads.Learnt,
 )
@@ -93,24 +84,12 @@ start-of c = c .before .before .before .before
 found-one : (c : Found) → (let start = start-of c in oneInEach (start .args .leap .now) (sun-of start) (start .args .zone) (start .args .year) ≡ true)
 found-one c = sym (at-each (c .before)) ∙ not-false (c .before .one-in-each .result) (c .if2 .left)
 
-in-reach : (c : Found) → 1 < length (start-of c .args .solstices .now)
-in-reach c = let start = start-of c in let a = start .args in both-ahead (a .leap .now) (a .sunstart .0) (a .sun .now) (a .zone) (a .year) (start .pre .solstices-ahead) (start .pre .is-place) (found-one c)
+-- both solstices are listed, and the lent zhongqi days are those from the first to the second
+listed : (c : Found) → suc (start-of c .args .place) < turnsOf (sun-of (start-of c))
+listed c = let start = start-of c in let a = start .args in both-listed (a .leap .now) (a .sunstart .0) (a .sun .now) (a .zone) (a .year) (start .pre .solstices-ahead) (start .pre .is-place) (found-one c)
 
--- the index of the first
-index-made : (start : Start) → start .args .suns .first +ℤ pos (24 * start .args .place) ≡ index-of start
-index-made start = ap (λ (t : TurnList). t .first +ℤ pos (24 * start .args .place)) (start .pre .suns-searched .are-turns)
-
-at-index : (c : lts.After-turn-index called reads.Pre reads.Post) → toZ w64 (ofZ w64 (c .turn-index .result)) ≡ index-of (start-of (c .before .before))
-at-index c =
-    let start = start-of (c .before .before) in
-    let f = fits-of (start .args .suns .first) (c .before .struct-told .given .0 .1) in
-    back (c .turn-index .result) (c .turn-index .ok) ∙ (rw (toZ-ofZ f) at (c .turn-index .ensures)) ∙ index-made start
-
--- the thirteen zhongqi from it on
-at-zhongqi : (c : lts.After-zhongqi-days called reads.Pre reads.Post) → (let start = start-of (c .before .before .before .before .before) in c .zhongqi-days .result ≡ zhongqiFrom (start .args .leap .now) (sun-of start) (start .args .zone) (index-of start))
-at-zhongqi c =
-    let start = start-of (c .before .before .before .before .before) in
-    rw (at-index (c .before .before .before), toZ-ofZ (start .fits .zone)) at (c .zhongqi-days .ensures)
+at-zhongqi : (c : Found) → (let start = start-of c in start .args .zhongqi .now ≡ zhongqiFrom (start .args .leap .now) (sun-of start) (start .args .zone) (index-of start))
+at-zhongqi c = start-of c .pre .are-zhongqi (listed c)
 
 -- ---- the needs
 
@@ -144,72 +123,23 @@ returns-2 c =
     (refused-then (λ (j : ℤ). daysOf (turnDays (a .leap .now) (moon (inputs-of start)) (a .zone)) (zhongqiFrom (a .leap .now) (sun-of start) (a .zone) j)) (missing-when (a .leap .now) (sun-of start) (a .zone) (a .year) none)
     ∙ sym (sui-days-are (inputs-of start) (a .zone) (start .pre .is-known) (a .year) (at-year (judged .before))))
 
-turn-index-requires : tie.Need-turn-index-requires
-turn-index-requires c κs =
-    let start = start-of (c .before) in
-    let a = start .args in
-    let e = start .pre .is-known .sun-ready .is-accepted in
-    let listed = both-listed (a .leap .now) (a .sunstart .0) (a .sun .now) (a .zone) (a .year) (start .pre .solstices-ahead) (start .pre .is-place) (found-one (c .before)) in
-    let f = fits-of (a .suns .first) (c .struct-told .given .0 .1) in
-    (circles-small (sun-of start) e (a .place) (omega arith), rw (toZ-ofZ f, index-made start) (turn-fits (sun-of start) e (a .place) (omega arith)))
-
-shared-slice-copy-out-first : tie.Need-shared-slice-copy-out-first
-shared-slice-copy-out-first c = omega (arith, in-reach (c .before .before))
-
-shared-slice-copy-out-last : tie.Need-shared-slice-copy-out-last
-shared-slice-copy-out-last c = omega (arith, in-reach (c .before .before .before))
-
-zhongqi-days-requires : tie.Need-zhongqi-days-requires
-zhongqi-days-requires c κs =
-    let found = c .before .before .before .before in
-    let start = start-of found in
-    let a = start .args in
-    let one = found-one found in
-    let f : SFits w64 (getD (a .solstices .now) 0 (pos 0)) = search needs in
-    let g : SFits w64 (getD (a .solstices .now) 1 (pos 0)) = search needs in
-    rw (at-index (c .before .before), toZ-ofZ (start .fits .zone), toZ-ofZ f, toZ-ofZ g) (
-      start .pre .is-known .sun-ready,
-      (
-        start .pre .suns-searched .zone-small,
-        (
-          turn-after (sun-of start) (a .place),
-          (
-            to-the-last (a .leap .now) (a .sunstart .0) (a .sun .now) (a .zone) (a .year) (start .pre .solstices-ahead) (start .pre .is-place) one,
-            (
-              first-day (a .leap .now) (a .sunstart .0) (a .sun .now) (a .zone) (a .year) (start .pre .solstices-ahead) (start .pre .is-place) one,
-              last-day (a .leap .now) (a .sunstart .0) (a .sun .now) (a .zone) (a .year) (start .pre .solstices-ahead) (start .pre .is-place) one,
-            ),
-          ),
-        ),
-      ),
-    )
-
 days-within-requires : tie.Need-days-within-requires
 days-within-requires c κs =
-    let found = c .before .before .before .before .before in
-    let start = start-of found in
+    let start = start-of c in
     let a = start .args in
-    let listed = both-listed (a .leap .now) (a .sunstart .0) (a .sun .now) (a .zone) (a .year) (start .pre .solstices-ahead) (start .pre .is-place) (found-one found) in
     let first = first-is-turn (inputs-of start) (a .zone) (a .place) in
-    rw (toZ-ofZ (start .fits .zone), at-zhongqi c, first) (
-      start .pre .moons-searched,
-      (
-        rw first at (solstices-in-order (inputs-of start) (a .zone) (a .place) (start .pre .is-known) listed),
-        (start .pre .some-moons, start .pre .moons-ahead),
-      ),
-    )
+    rw (toZ-ofZ (start .fits .zone)) (start .pre .moons-searched, (start .pre .thirteen, rw (at-zhongqi c, first) (rw first at (solstices-in-order (inputs-of start) (a .zone) (a .place) (start .pre .is-known) (listed c)), (start .pre .some-moons, start .pre .moons-ahead))))
 
 returns-3 : tie.Need-returns-3
 returns-3 c =
-    let zhongqi = c .before in
-    let found = zhongqi .before .before .before .before .before in
+    let found = c .before in
     let start = start-of found in
     let a = start .args in
     let moons = turnDays (a .leap .now) (moon (inputs-of start)) (a .zone) in
-    let days : c .days-within .result ≡ daysAnswer (daysOf moons (zhongqi .zhongqi-days .result)) = rw (toZ-ofZ (start .fits .zone)) at (c .days-within .ensures) in
+    let days : c .days-within .result ≡ daysAnswer (daysOf moons (a .zhongqi .now)) = rw (toZ-ofZ (start .fits .zone)) at (c .days-within .ensures) in
     let index = ap (turnIndexOf (sun-of start)) (start .pre .is-place) in
     days
-    ∙ ap (λ (l : List ℤ). daysAnswer (daysOf moons l)) (at-zhongqi zhongqi)
+    ∙ ap (λ (l : List ℤ). daysAnswer (daysOf moons l)) (at-zhongqi found)
     ∙ ap (λ (j : ℤ). daysAnswer (daysOf moons (zhongqiFrom (a .leap .now) (sun-of start) (a .zone) j))) index
     ∙ ap daysAnswer
     (answered-then (λ (j : ℤ). daysOf moons (zhongqiFrom (a .leap .now) (sun-of start) (a .zone) j)) (found-when (a .leap .now) (sun-of start) (a .zone) (a .year) (found-one found))
@@ -225,9 +155,5 @@ days-after-spec =
     one-in-each-requires
     no-days-requires-2
     returns-2
-    turn-index-requires
-    shared-slice-copy-out-first
-    shared-slice-copy-out-last
-    zhongqi-days-requires
     days-within-requires
     returns-3)
