@@ -1,5 +1,5 @@
 -- The cases of `inputsTaken`, by where its sections stand. Assumes nothing.
-use mathlib.Core.Path.{_≡_, refl, sym, ap₂, _∙_}
+use mathlib.Core.Path.{_≡_, refl, sym, ap, ap₂, _∙_}
 use mathlib.Core.Bool.{Bool, true, false, not}
 use mathlib.Core.List.{List, [], _∷_}
 use Prim.Native.Nat.{ℕ, zero, suc, _+_, _-_, _/_, _≤_, _<_}
@@ -8,9 +8,9 @@ use native.Mathlib.Decide.{decLt}
 use borrow.Author.Tests.{lt-ltb, le-ltb, ltb-false, not-false}
 use lib.Dec.{ltb}
 use lib.IntN.{ℤ}
-use lib.ListN.{length, take, drop, length-drop}
+use lib.ListN.{length, take, drop, length-append, length-drop}
 use lib.Seq.{length-take-le, take-all}
-use Rattle.refusals.specs.Verdict.{Verdict, answered, refused, refuseWhen, test-answered, _before_, _then_}
+use Rattle.refusals.specs.Verdict.{Verdict, answered, refused, refuseWhen, answers-apart, answer-or-refusal, test-answered, _before_, _then_}
 use Rattle.refusals.specs.Lent.{writtenInto}
 use Rattle.clock.specs.Clock.{utc8}
 use Rattle.inputs.specs.Inputs.{Inputs}
@@ -128,3 +128,13 @@ passing-on file years e p = rw e p
 -- the same by the same inputs
 pub by-inputs : {i i′ j j′ : Inputs} (old file : List ℕ) (years : List ℤ) {v : Verdict Rebuilt} {lastfile : List ℕ} {lastyears : List ℤ} → i ≡ i′ → j ≡ j′ → Promises (rebuilt i j utc8 old (length file) (length years)) file years v lastfile lastyears → Promises (rebuilt i′ j′ utc8 old (length file) (length years)) file years v lastfile lastyears
 by-inputs old file years e f p = passing-on file years (sym (ap₂ (λ (x y : Inputs). rebuilt x y utc8 old (length file) (length years)) e f)) p
+
+-- as many bytes as were written are in the file, and as many years in their list
+pub new-inside : (v : Verdict NewFile) (file : List ℕ) (years : List ℤ) {r : Rebuilt} {lastfile : List ℕ} {lastyears : List ℤ} → Promises v file years (answered r) lastfile lastyears → (r .bytes ≤ length lastfile) × (r .years ≤ length lastyears)
+new-inside (answered n) file years {r} p =
+    let bytes : r .bytes ≡ length (n .bytes) = ap (λ (x : Rebuilt). x .bytes) (answers-apart (p .0)) in
+    let count : r .years ≡ length (n .years) = ap (λ (x : Rebuilt). x .years) (answers-apart (p .0)) in (
+      rw (p .1 .0) (omega (arith, bytes, length-append (n .bytes) (drop (length (n .bytes)) file))),
+      rw (p .1 .1) (omega (arith, count, length-append (n .years) (drop (length (n .years)) years))),
+    )
+new-inside (refused number segment) file years p = answer-or-refusal (p .0)
