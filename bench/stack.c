@@ -41,6 +41,9 @@ static void make_series(int64_t *coefs, int64_t segments, int64_t start, int64_t
     }
 }
 
+/* their last segments once more, to be put in their own places */
+static int64_t last_sun[14], last_moon[14];
+
 static void make_input(void) {
     in.first = FIRST, in.count = SUIS, in.entries = LEAP, in.suns = SUN, in.moons = MOON;
     in.sun_start = in.moon_start = -37000LL * 86400;
@@ -48,6 +51,7 @@ static void make_input(void) {
     /* a year of 365.2422 days from the solstice of 1999 on, a month of 29.530589 days from the new moon of 2000-01-06 on */
     make_series(in.sun, SUN, in.sun_start, SUN_HALF, 567736793, -836107, 18 * 540000000LL);
     make_series(in.moon, MOON, in.moon_start, MOON_HALF, 877739577, 497640, 0);
+    for (int i = 0; i < 14; i++) last_sun[i] = in.sun[14 * (SUN - 1) + i], last_moon[i] = in.moon[14 * (MOON - 1) + i];
 }
 
 /* ---- the calls; each leaves the number that it was answered by */
@@ -72,6 +76,8 @@ static int64_t day_of_milli(void) { return hzk_day_of_milli(-1, &answer); }
 static int64_t shown(void) { return hzk_shown(in.leap, 2 * LEAP, -836107, &answer); }
 static int64_t accept_sun(void) { return hzk_accept(SUN_SERIES, &answer); }
 static int64_t accept_moon(void) { return hzk_accept(MOON_SERIES, &answer); }
+static int64_t replace_in_sun(void) { return hzk_replace_segment(HZK_SUN, in.sun_start, in.sun, 14 * SUN, SUN - 1, last_sun, &answer); }
+static int64_t replace_in_moon(void) { return hzk_replace_segment(HZK_MOON, in.moon_start, in.moon, 14 * MOON, MOON - 1, last_moon, &answer); }
 static int64_t value_of_sun(void) { return hzk_value_at(HZK_SUN, in.sun_start, in.sun, 14, in.sun_start + 1000001, &answer); }
 static int64_t value_of_moon(void) { return hzk_value_at(HZK_MOON, in.moon_start, in.moon, 14, in.moon_start + 100001, &answer); }
 static int64_t count_of_sun(void) { return hzk_count_marks(SUN_SERIES, &answer); }
@@ -164,6 +170,8 @@ int main(int count, char **words) {
     MEASURE(shown);
     MEASURE(accept_sun);
     MEASURE(accept_moon);
+    MEASURE(replace_in_sun);
+    MEASURE(replace_in_moon);
     MEASURE(value_of_sun);
     MEASURE(value_of_moon);
     MEASURE(count_of_sun);

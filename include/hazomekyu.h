@@ -7,7 +7,7 @@
      3 a coefficient out of range                          9 a sui has neither 12 nor 13 months
      4 a segment rises too slowly                         10 a month has not 29 or 30 days
      5 a joint between segments outside its range         11 thirteen months, all with a zhongqi
-     6 a second, a day or a date out of range             12 lent room too small
+     6 a second, a day, a date or a segment out of range  12 lent room too small
      7 an instant before the first leap entry             13 a file, or lists to be written, break their layout
 
    The answer record is written whole by every call: the number again, the segment that a refusal by 3 to 5 names (counted from 0; else 0), and the numbers
@@ -73,6 +73,10 @@ int64_t hzk_accept(bool moon, int64_t start, const int64_t *coefs, size_t coef_w
 
 /* The value of a series at a second: units of 0.1 milliarcsecond. 2 to 5, 6 outside the span. */
 int64_t hzk_value_at(bool moon, int64_t start, const int64_t *coefs, size_t coef_words, int64_t second, hzk_answer *answer);
+
+/* Replaces segment `number` (counted from 0) of a series by the 14 words of part, and judges the whole new series. 6 where there is no such segment; then 2; 3, 4,
+   5 with the segment. Writes 14 words; while the call runs they stand in coefs, and after a refusal those that stood there do again. */
+int64_t hzk_replace_segment(bool moon, int64_t start, int64_t *coefs, size_t coef_words, size_t number, const int64_t part[14], hzk_answer *answer);
 
 /* How many marks a series lists: marks. 2 to 5. */
 int64_t hzk_count_marks(bool moon, int64_t start, const int64_t *coefs, size_t coef_words, hzk_answer *answer);

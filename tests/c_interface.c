@@ -55,6 +55,11 @@ static int64_t *lend(list *l) {
     return l->words + 1;
 }
 
+/* with words to begin with */
+static int64_t *lend_words(list *l, const int64_t *words, size_t n) {
+    return memcpy(lend(l), words, n * sizeof words[0]);
+}
+
 static void holds(const char *what, const list *l, const int64_t *wanted, size_t n) {
     bool same = true;
     for (size_t i = 0; i < COUNT(l->words); i++) same = same && l->words[i] == (0 < i && i <= n ? wanted[i - 1] : UNTOUCHED);
@@ -151,6 +156,8 @@ static void clocks(void) {
 /* ---- series and marks: document 01's Sun and Moon */
 #define SUN SEGMENT(552960000, 552960000, 0)
 #define MOON SEGMENT(4103999999, 864000000, 0)
+#define SECOND SEGMENT(1658880000, 552960000, 0) /* behind that Sun: it joins by 400 */
+#define PART(...) (const int64_t[14]){__VA_ARGS__}
 
 static void series(void) {
     expect("the worked Sun", hzk_accept(HZK_SUN, 0, LIST(SUN), fresh()), ACCEPTED);
@@ -171,6 +178,35 @@ static void series(void) {
     expect("a joint of 400", hzk_accept(HZK_SUN, 0, LIST(SUN, SEGMENT(1658880000, 552960000, 0)), fresh()), ACCEPTED);
     expect("a joint of 200", hzk_accept(HZK_SUN, 0, LIST(SUN, SEGMENT(1658879800, 552960000, 0)), fresh()), ACCEPTED);
     expect("a joint of 199", hzk_accept(HZK_SUN, 0, LIST(SUN, SEGMENT(1658879799, 552960000, 0)), fresh()), REFUSED_AT(5, 1));
+
+    expect("a segment by itself", hzk_replace_segment(HZK_SUN, 0, lend_words(&first_list, LIST(SUN, SECOND)), 28, 1, PART(SECOND), fresh()), ACCEPTED);
+    holds("the series as it was", &first_list, LIST(SUN, SECOND));
+    expect("the last segment by another", hzk_replace_segment(HZK_SUN, 0, lend_words(&first_list, LIST(SUN, SECOND)), 28, 1, PART(SEGMENT(1658879800, 552960000, 0)), fresh()), ACCEPTED);
+    holds("the new series", &first_list, LIST(SUN, SEGMENT(1658879800, 552960000, 0)));
+    expect("the first segment by another", hzk_replace_segment(HZK_SUN, 0, lend_words(&first_list, LIST(SUN, SECOND)), 28, 0, PART(SEGMENT(552960200, 552960000, 0)), fresh()), ACCEPTED);
+    holds("the new series", &first_list, LIST(SEGMENT(552960200, 552960000, 0), SECOND));
+    expect("the Moon's segment by another", hzk_replace_segment(HZK_MOON, 0, lend_words(&first_list, LIST(MOON)), 14, 0, PART(1, 17280001, 0, 0, 0, 0, 0, 0, 0, 0, 0, 0, 0, 0), fresh()), ACCEPTED);
+    holds("the new series", &first_list, LIST(1, 17280001, 0, 0, 0, 0, 0, 0, 0, 0, 0, 0, 0, 0));
+    expect("a series mended", hzk_replace_segment(HZK_SUN, 0, lend_words(&first_list, LIST(SUN, SUN)), 28, 1, PART(SECOND), fresh()), ACCEPTED);
+    holds("the new series", &first_list, LIST(SUN, SECOND));
+    expect("a segment behind the last", hzk_replace_segment(HZK_SUN, 0, lend_words(&first_list, LIST(SUN, SECOND)), 28, 2, PART(SECOND), fresh()), REFUSED(6));
+    holds("the series as it was", &first_list, LIST(SUN, SECOND));
+    expect("the largest number", hzk_replace_segment(HZK_SUN, 0, lend_words(&first_list, LIST(SUN, SECOND)), 28, (size_t)-1, PART(SECOND), fresh()), REFUSED(6));
+    holds("the series as it was", &first_list, LIST(SUN, SECOND));
+    expect("a segment of none", hzk_replace_segment(HZK_SUN, 0, lend(&first_list), 0, 0, PART(SUN), fresh()), REFUSED(6));
+    untouched("nothing replaced", &first_list);
+    expect("a word too many", hzk_replace_segment(HZK_SUN, 0, lend_words(&first_list, LIST(SUN, 7)), 15, 0, PART(SECOND), fresh()), REFUSED(2));
+    holds("the series as it was", &first_list, LIST(SUN, 7));
+    expect("a word too many, 6 before 2", hzk_replace_segment(HZK_SUN, 0, lend_words(&first_list, LIST(SUN, 7)), 15, 1, PART(SECOND), fresh()), REFUSED(6));
+    holds("the series as it was", &first_list, LIST(SUN, 7));
+    expect("a bad coefficient", hzk_replace_segment(HZK_SUN, 0, lend_words(&first_list, LIST(SUN, SECOND)), 28, 1, PART(1658880000, 552960000, 1, 2, 3, 4, 5, 6, 7, 8, 9, 10, 11, INT64_MIN), fresh()), REFUSED_AT(3, 1));
+    holds("the series as it was", &first_list, LIST(SUN, SECOND));
+    expect("a slow segment", hzk_replace_segment(HZK_SUN, 0, lend_words(&first_list, LIST(SUN, SECOND)), 28, 0, PART(SEGMENT(0, 138239999, 0)), fresh()), REFUSED(4));
+    holds("the series as it was", &first_list, LIST(SUN, SECOND));
+    expect("a joint of 199 with the one before", hzk_replace_segment(HZK_SUN, 0, lend_words(&first_list, LIST(SUN, SECOND)), 28, 1, PART(SEGMENT(1658879799, 552960000, 0)), fresh()), REFUSED_AT(5, 1));
+    holds("the series as it was", &first_list, LIST(SUN, SECOND));
+    expect("a joint of 199 with the one behind", hzk_replace_segment(HZK_SUN, 0, lend_words(&first_list, LIST(SUN, SECOND)), 28, 0, PART(SEGMENT(552960201, 552960000, 0)), fresh()), REFUSED_AT(5, 1));
+    holds("the series as it was", &first_list, LIST(SUN, SECOND));
 
     expect("value at 0", hzk_value_at(HZK_SUN, 0, LIST(SUN), 0, fresh()), ANSWERED(0));
     expect("value at 1350000", hzk_value_at(HZK_SUN, 0, LIST(SUN), 1350000, fresh()), ANSWERED(540000000));
@@ -354,6 +390,17 @@ static void real(const char *folder, const char *almanac_file) {
     listed("its marks", 78, 808, 1037989942, 885, 1139034066, 66027, 84902922432);
     expect("list of the real Moon", hzk_list_marks(HZK_MOON, in.moon_start, in.moon, in.moon_words, lend(&first_list), 316, fresh()), ANSWERED(158));
     listed("its marks", 158, 1630, 1037601795, 1787, 1137739654, 269943, 171859228526);
+
+    /* a segment in the middle of the real Sun: by itself, and 100,000 units too high, which its joint does not take */
+    int64_t *sun = given + (in.sun - given), part[14];
+    static int64_t before[COUNT(given)];
+    memcpy(before, given, sizeof given);
+    memcpy(part, sun + 14 * 5, sizeof part);
+    expect("a real segment by itself", hzk_replace_segment(HZK_SUN, in.sun_start, sun, in.sun_words, 5, part, fresh()), ACCEPTED);
+    check("the words as they were", memcmp(before, given, sizeof given) == 0);
+    part[0] += 100000;
+    expect("a real segment too high", hzk_replace_segment(HZK_SUN, in.sun_start, sun, in.sun_words, 5, part, fresh()), REFUSED_AT(5, 5));
+    check("the words as they were", memcmp(before, given, sizeof given) == 0);
 
     /* the sui of 2033 has a month without a zhongqi and is not leap; that of 2034 has leap 11 */
     expect("sui 2033", hzk_sui(SERIES, 2033, lend(&first_list), 36, fresh()), ANSWERED(12));

@@ -4,4 +4,5 @@
 #include <stddef.h>
 void *memset(void *, int, size_t);
 void *memcpy(void *, const void *, size_t);
+int memcmp(const void *, const void *, size_t);
 #endif

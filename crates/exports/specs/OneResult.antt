@@ -12,6 +12,7 @@ use Rattle.clock.specs.Clock.{utc8, dayOfMilli}
 use Rattle.clock.specs.Answers.{leapJudged, milliOf, dayOfSecond, shownOf}
 use Rattle.series.specs.Series.{Series}
 use Rattle.series.specs.Acceptance.{seriesJudged, valueOf}
+use Rattle.replacing.specs.Replaced.{segmentReplaced, segmentChecked, heldAfter}
 use Rattle.marks.specs.Answers.{countedMarks, listedInto, wordsListed}
 use Rattle.inputs.specs.Inputs.{Inputs, inputsJudged}
 use Rattle.times.specs.declared.Day.{Day}
@@ -71,6 +72,14 @@ module _ (s : Series) where
 
   pub hzk-value-at-one-result : (second : ℤ) → OneResult (valueOf s second) valueNumbers
   hzk-value-at-one-result second = one-result (valueOf s second) valueNumbers
+
+  module _ (number : ℕ) (part : List ℤ) where
+    pub hzk-replace-segment-one-result : OneResult (segmentChecked s number part) noNumbers
+    hzk-replace-segment-one-result = one-result (segmentChecked s number part) noNumbers
+
+    -- an answer replaces the lent coefficients whole
+    pub hzk-replace-segment-one-content : (a b : List ℤ) → a ≡ heldAfter (segmentReplaced s number part) (s .coefs) → b ≡ heldAfter (segmentReplaced s number part) (s .coefs) → a ≡ b
+    hzk-replace-segment-one-content = one-content
 
   pub hzk-count-marks-one-result : OneResult (countedMarks s) countNumbers
   hzk-count-marks-one-result = one-result (countedMarks s) countNumbers

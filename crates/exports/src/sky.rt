@@ -7,6 +7,7 @@ ghost use lib.ListN.{length};
 ghost use Rattle.refusals.specs.Lent.{writtenInto};
 ghost use Rattle.series.specs.Series.{series};
 ghost use Rattle.series.specs.Acceptance.{seriesJudged, valueOf};
+ghost use Rattle.replacing.specs.Replaced.{segmentReplaced, segmentChecked, heldAfter};
 ghost use Rattle.marks.specs.Answers.{countedMarks, listedInto, wordsListed};
 ghost use Rattle.inputs.specs.Inputs.{inputs, inputsJudged};
 ghost use Rattle.exports.specs.Record.{numberOf, recordOf, noNumbers, valueNumbers, countNumbers, bodyOf};
@@ -46,6 +47,32 @@ pub extern "C" fn hzk_value_at(
         record::value_record(series::value_at(body_of(moon), Second(start), coefs, Second(second))),
         answer,
     )
+}
+
+// The words of a lent part, by value: how many a result has is known, of a lent array it is not.
+fn words_of(part: &[i64; 14]) -> [i64; 14]
+    ensures { λ r. ⌜ r ≡ now (part .entry) ⌝ }
+{
+    *part
+}
+
+// Replaces one segment of a lent series.
+#[no_mangle]
+pub extern "C" fn hzk_replace_segment(
+    moon: bool,
+    start: i64,
+    coefs: &mut [i64],
+    number: usize,
+    part: &[i64; 14],
+    answer: &mut [i64; 9],
+) -> i64
+    ensures { λ r. ⌜ r ≡ numberOf (segmentChecked (series (bodyOf moon) start (now (coefs .entry))) number (now (part .entry))) ⌝ }
+    ensures { λ r. ⌜ now (answer .exit) ≡ recordOf (segmentChecked (series (bodyOf moon) start (now (coefs .entry))) number (now (part .entry))) noNumbers ⌝ }
+    ensures { λ r. ⌜ now (coefs .exit) ≡ heldAfter (segmentReplaced (series (bodyOf moon) start (now (coefs .entry))) number (now (part .entry))) (now (coefs .entry)) ⌝ }
+{
+    let words = words_of(part);
+    let replaced = replacing::replace_segment(body_of(moon), Second(start), coefs, number, words);
+    record::tell(record::check_record(replaced), answer)
 }
 
 // How many marks a series lists.

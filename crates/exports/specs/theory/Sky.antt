@@ -1,10 +1,12 @@
 -- Series and marks, and the inputs of a build: the numbers of their answers and refusals fit a word. Assumes nothing but what a statement says itself.
+use mathlib.Core.Path.{ap}
 use mathlib.Core.Bool.{Bool, true, false, cond, not, _||_}
+use mathlib.Core.List.{List, _++_}
 use Prim.Native.Nat.{ℕ, zero, suc, _+_, _-_, _*_, _%_, _^_, _<_, _≤_}
 use native.Mathlib.Omega.{arith}
-use lib.Dec.{T, ltb, eqb}
+use lib.Dec.{T, ltb, leb, eqb}
 use lib.IntN.{ℤ, pos, negℤ}
-use lib.ListN.{length}
+use lib.ListN.{length, take, drop, length-append, length-drop, take-append-drop}
 use lib.Signed.{ltZ}
 use Rattle.refusals.specs.Verdict.{refused, answered-says}
 use Rattle.refusals.specs.Search.{firstBad}
@@ -12,13 +14,14 @@ use Rattle.series.specs.Bodies.{numbers}
 use Rattle.series.specs.Series.{Series, segments, valueAt, lastSecond}
 use Rattle.series.specs.Acceptance.{Accepted, badRange, slow, badJoint, seriesJudged, valueOf}
 use Rattle.series.specs.theory.Span.{span-few}
+use Rattle.replacing.specs.Replaced.{replaced, seriesWith, segmentReplaced, segmentChecked}
 use Rattle.marks.specs.Words.{markWords}
 use Rattle.marks.specs.Listed.{listedMarks}
 use Rattle.marks.specs.Answers.{countedMarks, listedInto}
 use Rattle.marks.specs.Theorems.{listed-only-when}
 use Rattle.marks.specs.theory.StretchLaws.{few}
 use Rattle.inputs.specs.Inputs.{Inputs, sun, moon, anyEarly, inputsJudged}
-use Rattle.exports.specs.Fits.{Fits, inTable, none, itself, answer, test, _and_, with-answer}
+use Rattle.exports.specs.Fits.{Fits, inTable, none, itself, answer, test, _and_, and-then, with-answer}
 use Rattle.exports.specs.theory.Time.{leap-fits}
 
 -- ---- series: a segment that is named is one of the series'
@@ -58,6 +61,22 @@ module _ (s : Series) (long : length (s .coefs) < 2 ^ 63) where
   list-fits room =
       with-answer (series-fits and test (ltb room (length (markWords (listedMarks s)))) 12 tt and answer (omega arith))
       (λ n e. let a = listed-only-when s room n e in let many = few-marks (a .is-accepted) in omega (arith, a .is-count))
+
+-- ---- a segment replaced: however it is put, no more words are added than it has
+module _ (s : Series) (k : ℕ) (part : List ℤ) where
+  few-more : length (replaced (s .coefs) k part) ≤ length (s .coefs) + length part
+  few-more =
+      let at = 14 * k in
+      let front = length-append (take at (s .coefs)) part in
+      let whole = length-append (take at (s .coefs) ++ part) (drop (at + length part) (s .coefs)) in
+      omega (arith, front, whole, length-drop (at + length part) (s .coefs), length-drop at (s .coefs), ap length (take-append-drop at (s .coefs)), length-append (take at (s .coefs)) (drop at (s .coefs)))
+
+  pub replaced-fits : length (s .coefs) + length part < 2 ^ 63 → Fits none (segmentChecked s k part)
+  unfolding segmentReplaced
+  replaced-fits long =
+      and-then
+      (test (leb (segments (s .coefs)) k) 6 tt and series-fits (seriesWith s k part) (omega (arith, few-more)) and answer (omega arith))
+      (λ coefs. answer (omega arith))
 
 -- ---- the inputs of a build
 pub inputs-fit : (i : Inputs) → length (i .sunCoefs) < 2 ^ 63 → length (i .moonCoefs) < 2 ^ 63 → Fits none (inputsJudged i)

@@ -1,0 +1,4 @@
+pub mod Replaced
+pub mod theory
+pub mod Theorems
+pub mod Examples
