@@ -237,14 +237,14 @@ def real_cases():
         try:
             years, file = rebuilt(sample.old, sample.inputs, corrected(sample.listed, body, k, a))
             told(sample, name, file, years)
-            expected += lines(sample.old, years) + b'as built fresh\n' + file
+            expected += b'as built fresh\n' + lines(sample.old, years) + file
         except reference.Refused as r:
             expected += build_cases.refusal(r)
     table, *series = sample.inputs
     write(real, 'entry', build_cases.words(ENTRY))
     years, file = rebuilt(sample.old, sample.inputs, ((*table, *ENTRY), *series))
     told(sample, 'entry', file, years)
-    expected += b'# entry\n' + lines(sample.old, years) + b'as built fresh\n' + file
+    expected += b'# entry\nas built fresh\n' + lines(sample.old, years) + file
     # the last byte of the old file is one more
     try:
         rebuilt(sample.old[:-1] + bytes([sample.old[-1] + 1]), sample.inputs, sample.inputs)

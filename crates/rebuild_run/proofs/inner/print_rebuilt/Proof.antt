@@ -1,4 +1,4 @@
--- `rebuild_run::print_rebuilt` is safe. Assumes nothing.
+-- `rebuild_run::inner::print_rebuilt` is safe. Assumes nothing.
 use mathlib.Core.Path.{_≡_, sym, ap, _∙_}
 use Prim.Native.Nat.{_≤_}
 use lib.ListN.{length}
@@ -7,14 +7,14 @@ use Rattle.rebuild.specs.Rebuild.{paperRebuilt}
 use Rattle.rebuilding.specs.Rebuilding.{rebuiltFromTaken}
 use Rattle.rebuilding.specs.theory.Cases.{new-inside}
 use borrow.Author.Needs.{needs}
-use Rattle.rebuild_run.proofs.print_rebuilt.Statement.{statement}
-use Rattle.rebuild_run.proofs.print_rebuilt.Tie as tie
-use Rattle.rebuild_run.proofs.print_rebuilt.Reads as reads
-use Rattle.rebuild_run.proofs.print_rebuilt.Lts as lts
+use Rattle.rebuild_run.proofs.inner.print_rebuilt.Statement.{statement}
+use Rattle.rebuild_run.proofs.inner.print_rebuilt.Tie as tie
+use Rattle.rebuild_run.proofs.inner.print_rebuilt.Reads as reads
+use Rattle.rebuild_run.proofs.inner.print_rebuilt.Lts as lts
 use Rattle.build_run.proofs.inner.file_room.Reads as file-room-reads
-use Rattle.rebuild_run.proofs.print_new.Reads as print-new-reads
-use Rattle.rebuild_run.proofs.print_refused.Reads as print-refused-reads
-use Rattle.rebuild_run.proofs.year_room.Reads as year-room-reads
+use Rattle.rebuild_run.proofs.inner.print_new.Reads as print-new-reads
+use Rattle.rebuild_run.proofs.inner.print_refused.Reads as print-refused-reads
+use Rattle.rebuild_run.proofs.inner.year_room.Reads as year-room-reads
 use Rattle.rebuilding.proofs.rebuild_taken.Reads as rebuild-taken-reads
 
 -- what was written of the file and of the years is there
