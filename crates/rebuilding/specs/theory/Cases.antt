@@ -93,7 +93,7 @@ module _ (ws : List ℤ) (bytes : ℕ) where
 
           few : Dec (bytes / 8 < 2) → inputsTaken ws bytes ≡ (placesTaken ws bytes then λ p. answered (inputsAt (behindYears ws bytes) p))
           few (yes h) = rw (e, size, lt-ltb (bytes / 8) 2 h)
-          few (no h) = rw (e, size, le-ltb (bytes / 8) 2 (omega arith), drop-two (bytes / 8) ws (omega arith))
+          few (no h) = rw (e, size, le-ltb (bytes / 8) 2 (omega arith)) (ap (λ (l : List ℤ). places l then λ p. answered (inputsAt l p)) (drop-two (bytes / 8) ws (omega arith)))
 
   pub inputs-broken : {number segment : ℕ} → placesTaken ws bytes ≡ refused number segment → inputsTaken ws bytes ≡ refused number segment
   inputs-broken e = inputs-are ∙ (rw e)
