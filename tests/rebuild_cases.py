@@ -143,16 +143,12 @@ class Sample:
 
     def smallest(self, body, moves):
         """Of the bumps that move a mark of the body to the next day or the one before the smallest that moves what it shall move: segment and bump."""
-        found = []
-        for j, _ in self.listed.days[body]:
-            for later in (False, True):
-                bump = least_bump(self.listed, body, j, later)
-                if bump:
-                    days = [list(marks) for marks in self.listed.days]
-                    days[body] = [(i, d + (i == j) * (1 if later else -1)) for i, d in days[body]]
-                    found.append((abs(bump[1]), *bump, days))
-        for _, k, a, days in sorted(found):
+        bumps = ((j, later, least_bump(self.listed, body, j, later)) for j in self.listed.seconds[body] for later in (False, True))
+        for _, k, a, j, later in sorted((abs(b[1]), *b, j, later) for j, later, b in bumps if b):
+            days = list(self.listed.days)
+            days[body] = [(i, d + (i == j) * (1 if later else -1)) for i, d in days[body]]
             try:
+                # by that mark's day alone, then by every mark of the corrected series
                 if moves(self.suis(days)) and moves(self.suis(build_cases.listed(*corrected(self.listed, body, k, a))[1])):
                     return k, a
             except reference.Refused:
