@@ -24,31 +24,48 @@ crate = os.path.join(here, 'crates', 'build_cases')
 CIRCLE, LONGEST = 12960000000, 2017080
 
 
-def built(data):
-    """The bytes of the file, or one line."""
-    try:
-        given = reference.words_of(data, LONGEST)
-        if len(given) < 2:
-            raise reference.Refused(13)
-        first, count = given[:2]
-        table, sun, moon = reference.sections(given[2:])
-        entries = reference.judge_leap(table)
-        bodies = [(s, b, reference.judge(s, b[1], b[3])) for s, b in zip((sun, moon), reference.BODIES)]
-        seconds = [[(j, t) for j, t in reference.marks(s[0], cs, b[1], b[2])] for s, b, cs in bodies]
-        if any(1000 * t - 32184 < 1000 * (86400 * entries[0][0] + entries[0][1]) for marks in seconds for _, t in marks):
-            raise reference.Refused(7)
-        if not 1 <= count <= 128:
-            raise reference.Refused(8)
-        days = [[(j, sui_real.day_of(entries, t)) for j, t in marks] for marks in seconds]
-        suis = [(year, sui_real.months(year, *days)) for year in range(first, first + count)]
-    except reference.Refused as r:
-        return b'R %s\n' % b' '.join(b'%d' % n for n in r.args)
+def parts(data):
+    """First Y, count of suis, leap words, Sun and Moon of an input."""
+    given = reference.words_of(data, LONGEST)
+    if len(given) < 2:
+        raise reference.Refused(13)
+    return (*given[:2], *reference.sections(given[2:]))
+
+
+def listed(table, sun, moon):
+    """The leap entries, and index and day of every mark of the Sun and of the Moon."""
+    entries = reference.judge_leap(table)
+    bodies = [(s, b, reference.judge(s, b[1], b[3])) for s, b in zip((sun, moon), reference.BODIES)]
+    seconds = [[(j, t) for j, t in reference.marks(s[0], cs, b[1], b[2])] for s, b, cs in bodies]
+    if any(1000 * t - 32184 < 1000 * (86400 * entries[0][0] + entries[0][1]) for marks in seconds for _, t in marks):
+        raise reference.Refused(7)
+    return entries, [[(j, sui_real.day_of(entries, t)) for j, t in marks] for marks in seconds]
+
+
+def file_of(first, count, table, sun, moon):
+    """The bytes of the file."""
+    entries, days = listed(table, sun, moon)
+    if not 1 <= count <= 128:
+        raise reference.Refused(8)
+    suis = [(year, sui_real.months(year, *days)) for year in range(first, first + count)]
     months = [(32 * year + 2 * number + mark, day, length) for year, found in suis for number, mark, day, length, _ in found]
     return b''.join([
         struct.pack('<I', len(entries)), *(struct.pack('<iI', *e) for e in entries),
         struct.pack('<I', len(suis)), *(struct.pack('<iB', year, len(found)) for year, found in suis),
         struct.pack('<I', len(months)), *(struct.pack('<IiB', *m) for m in months),
     ])
+
+
+def refusal(r):
+    return b'R %s\n' % b' '.join(b'%d' % n for n in r.args)
+
+
+def built(data):
+    """The bytes of the file, or one line."""
+    try:
+        return file_of(*parts(data))
+    except reference.Refused as r:
+        return refusal(r)
 
 
 def real(name):
@@ -141,12 +158,12 @@ def main():
         name, sun, moon, table, first, count = sys.argv[1 if whole else 2:]
         write_input(name, sun, moon, table, int(first), int(count), whole)
         return
-    # the sample of samples/ stands in data/; what is built from it is shown by show_cases
-    with open(os.path.join(crate, 'data', 'sample'), 'rb') as f:
-        sample = f.read()
+    # what is built from the sample is shown by show_cases; crates/rebuild_real builds it
+    with open(os.path.join(here, 'samples', 'real_1995_2024.in'), 'rb') as f:
+        sample = built(f.read())
     with open(os.path.join(here, 'crates', 'show_cases', 'data', 'sample'), 'wb') as f:
-        f.write(built(sample))
-    names, expected = ['sample'], b'# sample\n' + built(sample)
+        f.write(sample)
+    names, expected = [], b''
     for name, data in CASES:
         with open(os.path.join(crate, 'data', name), 'wb') as f:
             f.write(data)

@@ -1,7 +1,7 @@
 /* Calls every function of include/hazomekyu.h from C and compares the number, the whole record and every lent place with what is written down here: document 01's
    examples, both sides of its bounds, and real series, reckoned by bench/reference.py, tests/sui_real.py and tests/build_cases.py, which share no code with the
    library. Prints what differs and a last line "N checks, M failed". Arguments: the folder of the series (crates/build_cases/data), and the almanac file that
-   tests/build_cases.py made of its `sample`. tests/c_interface builds and runs it. */
+   tests/build_cases.py made of samples/real_1995_2024.in. tests/c_interface builds and runs it. */
 #include <stdio.h>
 #include <string.h>
 
@@ -444,7 +444,7 @@ static void real(const char *folder, const char *almanac_file) {
     FILE *f = fopen(almanac_file, "rb");
     size_t bytes = f ? fread(wanted, 1, sizeof wanted, f) : 0;
     if (f) fclose(f);
-    take(folder, "sample");
+    take("samples", "real_1995_2024.in");
     expect("2760 segments of the Moon", hzk_accept(HZK_MOON, in.moon_start, in.moon, in.moon_words, fresh()), ACCEPTED);
     expect("too many of the Sun", hzk_accept(HZK_SUN, in.moon_start, in.moon, in.moon_words, fresh()), REFUSED(2));
     expect("build thirty suis", hzk_build(SERIES, in.first, in.count, lend_file(), 16140, fresh()), ANSWERED(3725));

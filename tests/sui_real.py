@@ -71,8 +71,8 @@ def the_one(marks):
     return marks[0]
 
 
-def months(year, sun, moon):
-    """Number, leap mark, first day and length of each month of a sui, and whether it has a zhongqi."""
+def sui_days(year, sun, moon):
+    """The new-moon days from a sui's month 11 to the next sui's, and its thirteen zhongqi days."""
     if not 1700 <= year <= 2500:
         raise reference.Refused(8)
 
@@ -84,7 +84,12 @@ def months(year, sun, moon):
     if not any(d <= first[1] for d in moons) or not any(d > last[1] for d in moons):
         raise reference.Refused(8)
     begin, end = (max(d for d in moons if d <= m[1]) for m in (first, last))
-    days = [d for d in moons if begin <= d <= end]
+    return [d for d in moons if begin <= d <= end], zhongqi
+
+
+def months(year, sun, moon):
+    """Number, leap mark, first day and length of each month of a sui, and whether it has a zhongqi."""
+    days, zhongqi = sui_days(year, sun, moon)
     if len(days) - 1 not in (12, 13):
         raise reference.Refused(9)
     spans = list(zip(days, days[1:]))

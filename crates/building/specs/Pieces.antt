@@ -19,7 +19,7 @@ use Rattle.building.specs.Refused.{refusedInTaken, refusedSeries}
 -- ---- of an input that the room holds
 module _ (input : List ℕ) (ws : List ℤ) (size : length ws ≡ 252135) (held : Held input ws) where
   -- one of the length that is kept was all taken, and its words are the input's
-  all-there : lengthKept (length input) ≡ true → (leb (length input / 8) (length ws) ≡ true) × (take (length input / 8) ws ≡ words input (length input / 8))
+  pub all-there : lengthKept (length input) ≡ true → (leb (length input / 8) (length ws) ≡ true) × (take (length input / 8) ws ≡ words input (length input / 8))
   all-there e =
       let short = not-too-long (length input) e in
       (le-leb (length input / 8) (length ws) (omega (arith, size, short)), held (omega (arith, size, short)))

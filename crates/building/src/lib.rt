@@ -5,9 +5,10 @@ ghost use mathlib.Core.Path.{_≡_};
 ghost use lib.ListN.{length};
 ghost use Rattle.refusals.specs.Lent.{writtenInto};
 ghost use Rattle.almanac.specs.Answers.{paperWritten, bytesCounted, all-bytes};
-ghost use Rattle.building.specs.Building.{allTaken, builtFromTaken};
+ghost use Rattle.building.specs.Building.{builtFromTaken};
 ghost use Rattle.building.specs.Refused.{refusedInTaken};
 
+pub mod inner;
 mod refused;
 mod sections;
 
@@ -18,25 +19,12 @@ pub enum SeriesAnswer {
     Neither,
 }
 
-// Whether an input may have so many bytes, and their words were all taken.
-fn all_taken(words: &[i64], bytes: usize) -> bool
-    ensures { λ r. ⌜ r ≡ allTaken (now (words .entry)) bytes ⌝ }
-{
-    if 2017080 < bytes {
-        return false;
-    }
-    if bytes % 8 != 0 {
-        return false;
-    }
-    bytes / 8 <= words.len()
-}
-
 // Builds the file that an input of so many bytes asks for, whose words were taken in pieces, and says how many bytes it took; 13 where it breaks its layout.
 pub fn build_taken(words: &[i64], bytes: usize, file: &mut [u8]) -> WriteAnswer
     ensures { λ r. ⌜ paperWritten r ≡ bytesCounted (builtFromTaken (now (words .entry)) bytes (length (now (file .entry)))) ⌝ }
     ensures { λ r. ⌜ now (file .exit) ≡ writtenInto (builtFromTaken (now (words .entry)) bytes (length (now (file .entry)))) all-bytes (now (file .entry)) ⌝ }
 {
-    if !all_taken(words, bytes) {
+    if !inner::all_taken(words, bytes) {
         return WriteAnswer::Refused(refusals::LAYOUT);
     }
     sections::build_words(&words[..bytes / 8], file)
@@ -46,7 +34,7 @@ pub fn build_taken(words: &[i64], bytes: usize, file: &mut [u8]) -> WriteAnswer
 pub fn refused_series(words: &[i64], bytes: usize) -> SeriesAnswer
     ensures { λ r. ⌜ r ≡ refusedInTaken (now (words .entry)) bytes ⌝ }
 {
-    if !all_taken(words, bytes) {
+    if !inner::all_taken(words, bytes) {
         return SeriesAnswer::Neither;
     }
     refused::in_words(&words[..bytes / 8])

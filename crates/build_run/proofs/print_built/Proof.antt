@@ -1,29 +1,19 @@
 -- `build_run::print_built` is safe. Assumes nothing.
 use mathlib.Core.Path.{_≡_, sym, ap, _∙_}
-use mathlib.Core.List.{List}
-use Prim.Native.Nat.{ℕ, _≤_}
-use native.Mathlib.Omega.{arith}
-use lib.ListN.{length, drop, length-append}
 use lib.Seq.{length-take-le}
-use Rattle.refusals.specs.Verdict.{Verdict, answered, refused, answers-apart, answer-or-refusal}
-use Rattle.refusals.specs.Lent.{writtenInto}
-use Rattle.almanac.specs.Answers.{paperWritten, bytesCounted, all-bytes}
+use Rattle.almanac.specs.Answers.{paperWritten}
 use Rattle.building.specs.Building.{builtFromTaken}
+use Rattle.building.specs.theory.Cases.{written-inside}
 use borrow.Author.Needs.{needs}
 use Rattle.build_run.proofs.print_built.Statement.{statement}
 use Rattle.build_run.proofs.print_built.Tie as tie
 use Rattle.build_run.proofs.print_built.Reads as reads
 use Rattle.build_run.proofs.print_built.Lts as lts
-use Rattle.build_run.proofs.file_room.Reads as file-room-reads
-use Rattle.build_run.proofs.print_refusal.Reads as print-refusal-reads
-use Rattle.build_run.proofs.print_series.Reads as print-series-reads
+use Rattle.build_run.proofs.inner.file_room.Reads as file-room-reads
+use Rattle.build_run.proofs.inner.print_refusal.Reads as print-refusal-reads
+use Rattle.build_run.proofs.inner.print_series.Reads as print-series-reads
 use Rattle.building.proofs.build_taken.Reads as build-taken-reads
 use Rattle.io.proofs.write_all.Reads as write-all-reads
-
--- as many bytes as were written are in the file
-inside : (v : Verdict (List ℕ)) (file : List ℕ) {n : ℕ} {last : List ℕ} → answered n ≡ bytesCounted v → last ≡ writtenInto v all-bytes file → n ≤ length last
-inside (answered bytes) file p q = let n = answers-apart p in rw q (omega (arith, n, length-append bytes (drop (length bytes) file)))
-inside (refused number segment) file p q = answer-or-refusal p
 
 file-room-requires : tie.Need-file-room-requires
 file-room-requires c κs = search needs
@@ -51,14 +41,14 @@ array-share-prefix-file c =
     let told = c .before in
     let built = told .before .before .before in
     let a = built .before .before .before .args in
-    inside (builtFromTaken (a .words .now) (a .bytes) _) _ (sym (ap paperWritten (told .answer2 .given .1)) ∙ built .build-taken .ensures .0) (built .build-taken .ensures .1)
+    written-inside (builtFromTaken (a .words .now) (a .bytes) _) _ (sym (ap paperWritten (told .answer2 .given .1)) ∙ built .build-taken .ensures .0) (built .build-taken .ensures .1)
 
 slice-aggregate-write-all : tie.Need-slice-aggregate-write-all
 slice-aggregate-write-all c =
     let told = c .before .before in
     let built = told .before .before .before in
     let a = built .before .before .before .args in
-    sym (length-take-le _ _ (inside (builtFromTaken (a .words .now) (a .bytes) _) _ (sym (ap paperWritten (told .answer2 .given .1)) ∙ built .build-taken .ensures .0) (built .build-taken .ensures .1)))
+    sym (length-take-le _ _ (written-inside (builtFromTaken (a .words .now) (a .bytes) _) _ (sym (ap paperWritten (told .answer2 .given .1)) ∙ built .build-taken .ensures .0) (built .build-taken .ensures .1)))
 
 write-all-requires : tie.Need-write-all-requires
 write-all-requires c κs = search needs

@@ -13,7 +13,7 @@ use Rattle.building.proofs.build_taken.Statement.{statement}
 use Rattle.building.proofs.build_taken.Tie as tie
 use Rattle.building.proofs.build_taken.Reads as reads
 use Rattle.building.proofs.build_taken.Lts as lts
-use Rattle.building.proofs.all_taken.Reads as all-taken-reads
+use Rattle.building.proofs.inner.all_taken.Reads as all-taken-reads
 use Rattle.building.proofs.sections.build_words.Reads as build-words-reads
 
 is-not-taken : (c : tie.Then1) → allTaken (c .before .before .before .args .words .now) (c .before .before .before .args .bytes) ≡ false

@@ -13,7 +13,7 @@ use Rattle.building.proofs.refused_series.Statement.{statement}
 use Rattle.building.proofs.refused_series.Tie as tie
 use Rattle.building.proofs.refused_series.Reads as reads
 use Rattle.building.proofs.refused_series.Lts as lts
-use Rattle.building.proofs.all_taken.Reads as all-taken-reads
+use Rattle.building.proofs.inner.all_taken.Reads as all-taken-reads
 use Rattle.building.proofs.refused.in_words.Reads as in-words-reads
 
 is-not-taken : (c : tie.Then1) → allTaken (c .before .before .args .words .now) (c .before .before .args .bytes) ≡ false

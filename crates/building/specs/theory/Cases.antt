@@ -3,12 +3,13 @@ use mathlib.Core.Path.{_≡_, refl, sym}
 use mathlib.Core.Bool.{true, false}
 use mathlib.Core.List.{List}
 use Prim.Native.Nat.{ℕ, _/_, _%_, _≤_, _<_}
+use native.Mathlib.Omega.{arith}
 use borrow.Author.Tests.{lt-ltb, le-ltb, leb-true}
 use lib.Dec.{leb, eqb}
 use lib.IntN.{ℤ, pos}
-use lib.ListN.{length, getD, take, drop}
+use lib.ListN.{length, getD, take, drop, length-append}
 use Rattle.whole.specs.Booleans.{both}
-use Rattle.refusals.specs.Verdict.{Verdict, answered, refused}
+use Rattle.refusals.specs.Verdict.{Verdict, answered, refused, answers-apart, answer-or-refusal}
 use Rattle.refusals.specs.Lent.{writtenInto}
 use Rattle.clock.specs.Clock.{utc8}
 use Rattle.layout.specs.declared.inner.Places.{Places}
@@ -26,6 +27,11 @@ refusing file e = rw e (refl, refl)
 
 pub passing-on : {bytes same : Verdict (List ℕ)} (file : List ℕ) {last : List ℕ} {v : Verdict ℕ} → bytes ≡ same → Promises same file v last → Promises bytes file v last
 passing-on file e p = rw e p
+
+-- as many bytes as were written are in the file
+pub written-inside : (v : Verdict (List ℕ)) (file : List ℕ) {n : ℕ} {last : List ℕ} → answered n ≡ bytesCounted v → last ≡ writtenInto v all-bytes file → n ≤ length last
+written-inside (answered bytes) file p q = let n = answers-apart p in rw q (omega (arith, n, length-append bytes (drop (length bytes) file)))
+written-inside (refused number segment) file p q = answer-or-refusal p
 
 -- ---- the cases
 module _ (ws : List ℤ) (first count : ℤ) (room : ℕ) where

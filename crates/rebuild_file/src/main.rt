@@ -1,0 +1,4 @@
+// The rebuild program: three arguments name the old almanac file, its input and the new input. The new file's bytes go to descriptor 3, which whoever starts it opens.
+fn main() {
+    rebuild_run::rebuild_named(1, 2, 3, 3);
+}

@@ -1,0 +1,5 @@
+pub mod Rebuilding
+pub mod theory
+pub mod Theorems
+pub mod Pieces
+pub mod Examples

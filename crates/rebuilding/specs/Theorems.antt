@@ -1,0 +1,44 @@
+-- An input is taken as `build` takes it: what `build` makes of an input is what is built from its leap table, Sun and Moon, for the years that stand before them, and it
+-- is refused by 13 for its layout exactly where they are (`build-takes-them`). Assumes nothing.
+use mathlib.Core.Path.{_≡_, refl}
+use mathlib.Core.Bool.{Bool, true, false, not}
+use mathlib.Core.List.{List}
+use Prim.Native.Nat.{ℕ, _/_}
+use lib.Dec.{ltb}
+use lib.IntN.{ℤ, pos}
+use lib.ListN.{length, getD, drop}
+use Rattle.refusals.specs.Verdict.{Verdict, answered, refused, _then_}
+use Rattle.words.specs.Words.{words}
+use Rattle.clock.specs.Clock.{utc8}
+use Rattle.layout.specs.declared.inner.Places.{Places}
+use Rattle.layout.specs.Layout.{places, inputsAt}
+use Rattle.build.specs.Build.{bytesBuilt}
+use Rattle.building.specs.Building.{builtFromRest, builtFromWords, lengthKept, builtFrom}
+use Rattle.rebuilding.specs.Rebuilding.{inputsOfWords, inputsOf}
+
+words-taken : (ws : List ℤ) (room : ℕ) → builtFromWords ws room ≡ (inputsOfWords ws then λ i. bytesBuilt i utc8 (getD ws 0 (pos 0)) (getD ws 1 (pos 0)) room)
+unfolding builtFromWords builtFromRest inputsOfWords
+words-taken ws room = go (ltb (length ws) 2) refl
+  where
+    go : (few : Bool) → ltb (length ws) 2 ≡ few → builtFromWords ws room ≡ (inputsOfWords ws then λ i. bytesBuilt i utc8 (getD ws 0 (pos 0)) (getD ws 1 (pos 0)) room)
+    go true e = rw e
+    go false e = behind (places (drop 2 ws)) refl
+      where
+        behind : (v : Verdict Places) → places (drop 2 ws) ≡ v → builtFromWords ws room ≡ (inputsOfWords ws then λ i. bytesBuilt i utc8 (getD ws 0 (pos 0)) (getD ws 1 (pos 0)) room)
+        behind (answered p) f = rw (e, f)
+        behind (refused number segment) f = rw (e, f)
+
+-- first Y and count of an input
+abbrev pub firstYear : List ℕ → ℤ
+firstYear bytes = getD (words bytes (length bytes / 8)) 0 (pos 0)
+
+abbrev pub countOfSuis : List ℕ → ℤ
+countOfSuis bytes = getD (words bytes (length bytes / 8)) 1 (pos 0)
+
+pub build-takes-them : (bytes : List ℕ) (room : ℕ) → builtFrom bytes room ≡ (inputsOf bytes then λ i. bytesBuilt i utc8 (firstYear bytes) (countOfSuis bytes) room)
+unfolding builtFrom inputsOf
+build-takes-them bytes room = go (lengthKept (length bytes)) refl
+  where
+    go : (kept : Bool) → lengthKept (length bytes) ≡ kept → builtFrom bytes room ≡ (inputsOf bytes then λ i. bytesBuilt i utc8 (firstYear bytes) (countOfSuis bytes) room)
+    go true e = rw e (words-taken (words bytes (length bytes / 8)) room)
+    go false e = rw e
