@@ -205,7 +205,7 @@ old-records-in-file old new zone small file {y} e =
     }
 
 -- ---- one result: any two answers that the rebuild may give are the same, and so is what each lent place holds
-rebuilt-apart : OneToOne paperRebuilt
+pub rebuilt-apart : OneToOne paperRebuilt
 rebuilt-apart (rebuild-answer.Rebuilt a) (rebuild-answer.Rebuilt b) e = ap rebuild-answer.Rebuilt (answers-apart e)
 rebuilt-apart (rebuild-answer.Rebuilt a) (rebuild-answer.Refused s) e = answer-or-refusal e
 rebuilt-apart (rebuild-answer.Refused r) (rebuild-answer.Rebuilt b) e = answer-or-refusal (sym e)

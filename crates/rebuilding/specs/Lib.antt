@@ -2,4 +2,5 @@ pub mod Rebuilding
 pub mod theory
 pub mod Theorems
 pub mod Pieces
+pub mod OneResult
 pub mod Examples
