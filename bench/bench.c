@@ -276,6 +276,81 @@ static int race_builds(inputs *in, int64_t first, int64_t count) {
     return 0;
 }
 
+/* ---- rebuilds from a corrected Moon, beside a fresh build from it */
+static int64_t kept_years[MOST_SUIS + 2];
+
+static int64_t rebuild_by(const inputs *old, size_t size, const inputs *in, size_t room, size_t places) {
+    const series *sun = in->body, *moon = in->body + 1, *old_sun = old->body, *old_moon = old->body + 1;
+    int64_t number = hzk_rebuild(files[1], size, old->leap, old->n, old_sun->start, old_sun->coefs, old_sun->count, old_moon->start, old_moon->coefs, old_moon->count,
+                                 in->leap, in->n, sun->start, sun->coefs, sun->count, moon->start, moon->coefs, moon->count, files[0], room, kept_years, places,
+                                 &answer);
+    return number ? -number : answer.value[0];
+}
+
+/* Whether a sui has the same months by both inputs, reckoned in C. Where the Sun and the leap table are the same, they tell of all its days. */
+static bool same_months(inputs *old, inputs *in, int64_t year) {
+    int64_t months = same_sui(old, year, found_months[0]);
+    bool same = months > 0 && same_sui(in, year, found_months[1]) == months;
+    for (int64_t i = 0; same && i < months; i++) same = found_months[0][i].first == found_months[1][i].first && found_months[0][i].length == found_months[1][i].length;
+    return same;
+}
+
+/* The rebuild and its refusals, to the last byte and the last year of the room: the years that were listed, or -1 where it is not what is wanted. */
+static int64_t compare_rebuild(const char *what, inputs *old, inputs *in, int64_t first, int64_t count) {
+    int64_t old_size = same_build(old, first, count, files[1], MOST_BYTES), listed = 0;
+    for (size_t i = 0; i < sizeof files[0]; i++) files[0][i] = files[2][i] = (uint8_t)(i * 7 + 1);
+    for (size_t i = 0; i < MOST_SUIS + 2; i++) kept_years[i] = lists[0][i] = (int64_t)i - 1000000;
+    int64_t size = same_build(in, first, count, files[2], MOST_BYTES);
+    for (int64_t i = 0; i < count; i++)
+        if (same_months(old, in, first + i)) lists[0][listed++] = first + i;
+    if (old_size <= 0 || size <= 0) return -1;
+    size_t bytes = (size_t)old_size, room = (size_t)size, places = (size_t)listed;
+    files[1][bytes - 1] ^= 1;
+    bool right = rebuild_by(old, bytes, in, room, places) == -13;
+    files[1][bytes - 1] ^= 1;
+    right &= rebuild_by(old, bytes, in, room - 1, places) == -12 && (listed == 0 || rebuild_by(old, bytes, in, room, places - 1) == -12);
+    for (size_t i = 0; i < sizeof files[0]; i++) right &= files[0][i] == (uint8_t)(i * 7 + 1);
+    right &= rebuild_by(old, bytes, in, room, places) == size && answer.value[1] == listed;
+    for (size_t i = 0; i < sizeof files[0]; i++) right &= files[0][i] == files[2][i];
+    for (size_t i = 0; i < MOST_SUIS + 2; i++) right &= kept_years[i] == lists[0][i];
+    if (right) printf("rebuilt, %s: %ld bytes, %ld of %ld years listed; all as a fresh build and C say, and refused by 13 and 12\n", what, size, listed, count);
+    else printf("rebuilt, %s: not as a fresh build and C say\n", what);
+    return right ? listed : -1;
+}
+
+/* A line of the second table: what, then nanoseconds of the rebuild, of the fresh build, and of the fresh build's acceptance (a count of 0). */
+static int race_rebuild(const char *what, inputs *old, inputs *in, int64_t first, int64_t count) {
+    if (compare_rebuild(what, old, in, first, count) < 0) return 1;
+    size_t size = (size_t)same_build(old, first, count, files[1], MOST_BYTES);
+    double best[3] = {1e9, 1e9, 1e9};
+    for (int r = 0; r < ROUNDS; r++)
+        for (int k = 0; k < 3; k++) {
+            double t = now(CLOCK_PROCESS_CPUTIME_ID);
+            int64_t got = k == 0 ? rebuild_by(old, size, in, MOST_BYTES, MOST_SUIS) : build_by(0, in, first, k == 1 ? count : 0, MOST_BYTES);
+            t = now(CLOCK_PROCESS_CPUTIME_ID) - t;
+            if ((k < 2) != (got > 0)) return 1;
+            if (t < best[k]) best[k] = t;
+        }
+    printf("beside|%s|%.1f|%.1f|%.1f\n", what, best[0] * 1e9, best[1] * 1e9, best[2] * 1e9);
+    return 0;
+}
+
+/* One segment in the middle of the years a unit higher, which moves a mark by a second at most; then every segment ten minutes ahead, so that new moons near
+   midnight change their days. */
+static int race_rebuilds(inputs *old, int64_t first, int64_t count) {
+    inputs in = *old;
+    const series *moon = old->body + 1;
+    int64_t segment = ((january(first + count / 2) * 86400) - moon->start) / (2 * (int64_t)half_length(1));
+    if (segment < 0 || (int64_t)moon->count <= 14 * segment) return 1;
+    for (size_t i = 0; i < moon->count; i++) spoilt_words[i] = moon->coefs[i];
+    in.body[1].coefs = spoilt_words;
+    if (race_rebuild("nothing corrected", old, &in, first, count)) return 1;
+    spoilt_words[14 * segment]++;
+    if (race_rebuild("one Moon segment a unit higher", old, &in, first, count)) return 1;
+    for (size_t i = 0; i < moon->count; i += 14) spoilt_words[i] += 3000000;
+    return race_rebuild("the whole Moon ten minutes ahead", old, &in, first, count);
+}
+
 /* ---- judging a file */
 static int64_t proved_check(const uint8_t *file, size_t size) {
     int64_t number = hzk_check_file(file, size, &answer);
@@ -492,7 +567,7 @@ int main(int arguments, char **argument) {
         if (race_values(&in.body[b])) return 1;
     for (int b = 0; b < 2; b++)
         if (race_series(&in.body[b])) return 1;
-    if (race_suis(&in, first, count) || race_builds(&in, first, count)) return 1;
+    if (race_suis(&in, first, count) || race_builds(&in, first, count) || race_rebuilds(&in, first, count)) return 1;
     build_by(0, &in, first, count, MOST_BYTES);
     return race_checks(size);
 }

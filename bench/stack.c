@@ -56,7 +56,7 @@ static void make_input(void) {
 
 /* ---- the calls; each leaves the number that it was answered by */
 static hzk_answer answer;
-static int64_t marks[2 * MARKS], leap[2 * LEAP], suis[2 * SUIS], months[39 * SUIS];
+static int64_t marks[2 * MARKS], leap[2 * LEAP], suis[2 * SUIS], months[39 * SUIS], years[SUIS];
 static uint8_t file[16140], written[16140];
 static size_t bytes, entries, sui_count, month_count;
 
@@ -91,6 +91,7 @@ static int64_t check_file(void) { return hzk_check_file(file, bytes, &answer); }
 static int64_t read_file(void) { return hzk_read_file(file, bytes, leap, 2 * LEAP, suis, 2 * SUIS, months, 39 * SUIS, &answer); }
 static int64_t write_file(void) { return hzk_write_file(leap, entries, suis, sui_count, months, month_count, written, sizeof written, &answer); }
 static int64_t build(void) { return hzk_build(INPUTS, FIRST, SUIS, file, sizeof file, &answer); }
+static int64_t rebuild(void) { return hzk_rebuild(file, bytes, INPUTS, INPUTS, written, sizeof written, years, SUIS, &answer); }
 
 /* ---- a stack of its own */
 #define ROOM (1L << 22)
@@ -183,6 +184,7 @@ int main(int count, char **words) {
     MEASURE(sui);
     MEASURE(build);
     bytes = (size_t)answer.value[0];
+    MEASURE(rebuild);
     MEASURE(check_file);
     MEASURE(read_file);
     entries = 2 * (size_t)answer.value[0], sui_count = 2 * (size_t)answer.value[1], month_count = 3 * (size_t)answer.value[2];

@@ -8,7 +8,7 @@
      4 a segment rises too slowly                         10 a month has not 29 or 30 days
      5 a joint between segments outside its range         11 thirteen months, all with a zhongqi
      6 a second, a day, a date or a segment out of range  12 lent room too small
-     7 an instant before the first leap entry             13 a file, or lists to be written, break their layout
+     7 an instant before the first leap entry             13 a file, or lists to be written, break their layout, or old inputs give another file
 
    The answer record is written whole by every call: the number again, the segment that a refusal by 3 to 5 names (counted from 0; else 0), and the numbers
    of the answer, in the order that the function's comment gives; what it does not name is 0, and after a refusal all are. A lent list or file (the pointers
@@ -115,6 +115,14 @@ int64_t hzk_write_file(const int64_t *leap, size_t leap_words, const int64_t *su
    turn 8 to 11; 12. */
 int64_t hzk_build(const int64_t *leap, size_t leap_words, int64_t sun_start, const int64_t *sun, size_t sun_words, int64_t moon_start, const int64_t *moon,
                   size_t moon_words, int64_t first, int64_t count, uint8_t *file, size_t file_room, hzk_answer *answer);
+
+/* Rebuilds old_file, which the old inputs must give, from the new ones: bytes, years. Writes the file that hzk_build gives for the same years from the new inputs
+   (16,140 bytes are enough for any), and, in rising order, the years of the suis whose new-moon and zhongqi days are the same by both (128 words are enough). 13
+   where the old inputs do not give old_file; then as hzk_build refuses; 12 for the years too. */
+int64_t hzk_rebuild(const uint8_t *old_file, size_t old_file_bytes, const int64_t *old_leap, size_t old_leap_words, int64_t old_sun_start, const int64_t *old_sun,
+                    size_t old_sun_words, int64_t old_moon_start, const int64_t *old_moon, size_t old_moon_words, const int64_t *leap, size_t leap_words,
+                    int64_t sun_start, const int64_t *sun, size_t sun_words, int64_t moon_start, const int64_t *moon, size_t moon_words, uint8_t *file,
+                    size_t file_room, int64_t *years, size_t year_room, hzk_answer *answer);
 
 #ifdef __cplusplus
 }

@@ -374,6 +374,69 @@ static void listed(const char *what, size_t n, int64_t index, int64_t second, in
     check(what, w[-1] == UNTOUCHED && w[2 * n] == UNTOUCHED);
 }
 
+/* ---- rebuilds of the thirty years: the inputs of the old file are in `in`, those of the new one are corrected copies */
+#define CORRECTED(moon) in.leap, in.leap_words, in.sun_start, in.sun, in.sun_words, in.moon_start, moon, in.moon_words
+
+static void rebuilds(uint8_t *old, size_t bytes) {
+    static int64_t moon[COUNT(given)];
+    static uint8_t built[16140];
+    int64_t part[14], years[30], kept[26];
+    for (int i = 0; i < 30; i++) years[i] = in.first + i;
+
+    expect("rebuild from unchanged inputs", hzk_rebuild(old, bytes, SERIES, SERIES, lend_file(), bytes, lend(&first_list), 30, fresh()), ANSWERED((int64_t)bytes, 30));
+    file_holds("the old file", old, bytes);
+    holds("all its years", &first_list, years, 30);
+    expect("rebuild into more room", hzk_rebuild(old, bytes, SERIES, SERIES, lend_file(), 16140, lend(&first_list), 128, fresh()), ANSWERED((int64_t)bytes, 30));
+    file_holds("the old file, and no more", old, bytes);
+    holds("all its years, and no more", &first_list, years, 30);
+
+    expect("rebuild into a byte less", hzk_rebuild(old, bytes, SERIES, SERIES, lend_file(), bytes - 1, lend(&first_list), 30, fresh()), REFUSED(12));
+    file_holds("nothing rebuilt", NULL, 0);
+    untouched("nothing listed", &first_list);
+    expect("rebuild into a year less", hzk_rebuild(old, bytes, SERIES, SERIES, lend_file(), bytes, lend(&first_list), 29, fresh()), REFUSED(12));
+    file_holds("nothing rebuilt", NULL, 0);
+    untouched("nothing listed", &first_list);
+
+    /* a segment of the Moon in the middle of the years a unit higher: no mark moves to another day */
+    memcpy(moon, in.moon, in.moon_words * sizeof moon[0]);
+    memcpy(part, moon + 14 * 1380, sizeof part);
+    part[0]++;
+    expect("a Moon segment corrected", hzk_replace_segment(HZK_MOON, in.moon_start, moon, in.moon_words, 1380, part, fresh()), ACCEPTED);
+    check("another Moon", memcmp(moon, in.moon, in.moon_words * sizeof moon[0]) != 0);
+    expect("build from it", hzk_build(CORRECTED(moon), in.first, in.count, built, sizeof built, fresh()), ANSWERED((int64_t)bytes));
+    expect("rebuild from it", hzk_rebuild(old, bytes, SERIES, CORRECTED(moon), lend_file(), 16140, lend(&first_list), 128, fresh()), ANSWERED((int64_t)bytes, 30));
+    file_holds("the file that is built", built, bytes);
+    holds("all its years", &first_list, years, 30);
+
+    /* the whole Moon ten minutes ahead: new moons near midnight change their days, in four of the suis (so says tests/rebuild_cases.py) */
+    for (size_t i = 0; i < in.moon_words; i += 14) moon[i] += 3000000;
+    for (int i = 0, n = 0; i < 30; i++)
+        if (years[i] != 2006 && years[i] != 2009 && years[i] != 2018 && years[i] != 2019) kept[n++] = years[i];
+    expect("build from a Moon ahead", hzk_build(CORRECTED(moon), in.first, in.count, built, sizeof built, fresh()), ANSWERED((int64_t)bytes));
+    expect("rebuild from it", hzk_rebuild(old, bytes, SERIES, CORRECTED(moon), lend_file(), 16140, lend(&first_list), 26, fresh()), ANSWERED((int64_t)bytes, 26));
+    file_holds("the file that is built", built, bytes);
+    holds("the other years", &first_list, kept, 26);
+    expect("rebuild back", hzk_rebuild(built, bytes, CORRECTED(moon), SERIES, lend_file(), 16140, lend(&first_list), 26, fresh()), ANSWERED((int64_t)bytes, 26));
+    file_holds("the old file", old, bytes);
+    holds("the same years", &first_list, kept, 26);
+    expect("rebuild back into a year less", hzk_rebuild(built, bytes, CORRECTED(moon), SERIES, lend_file(), 16140, lend(&first_list), 25, fresh()), REFUSED(12));
+    file_holds("nothing rebuilt", NULL, 0);
+    untouched("nothing listed", &first_list);
+
+    /* 13 before all else; then as a build refuses */
+    expect("rebuild another's file", hzk_rebuild(built, bytes, SERIES, SERIES, lend_file(), 16140, lend(&first_list), 128, fresh()), REFUSED(13));
+    old[bytes - 1] ^= 3;
+    expect("rebuild a damaged file, 13 before 1 and 12", hzk_rebuild(old, bytes, SERIES, NO_WORDS, in.sun_start, in.sun, in.sun_words, in.moon_start, in.moon, in.moon_words, lend_file(), 0, lend(&first_list), 0, fresh()), REFUSED(13));
+    old[bytes - 1] ^= 3;
+    expect("rebuild a file without its last byte", hzk_rebuild(old, bytes - 1, SERIES, SERIES, lend_file(), 16140, lend(&first_list), 128, fresh()), REFUSED(13));
+    expect("rebuild by an old Sun cut short", hzk_rebuild(old, bytes, in.leap, in.leap_words, in.sun_start, in.sun, in.sun_words - 1, in.moon_start, in.moon, in.moon_words, SERIES, lend_file(), 16140, lend(&first_list), 128, fresh()), REFUSED(13));
+    expect("rebuild from a Sun cut short", hzk_rebuild(old, bytes, SERIES, in.leap, in.leap_words, in.sun_start, in.sun, in.sun_words - 1, in.moon_start, in.moon, in.moon_words, lend_file(), 16140, lend(&first_list), 128, fresh()), REFUSED(2));
+    moon[14 * 1380] += 100000;
+    expect("rebuild from a bad joint, 5 before 12", hzk_rebuild(old, bytes, SERIES, CORRECTED(moon), lend_file(), 0, lend(&first_list), 0, fresh()), REFUSED_AT(5, 1380));
+    file_holds("nothing rebuilt", NULL, 0);
+    untouched("nothing listed", &first_list);
+}
+
 static void real(const char *folder, const char *almanac_file) {
     take(folder, "real_2033");
     expect("the real inputs", hzk_judge_inputs(SERIES, fresh()), ACCEPTED);
@@ -451,6 +514,7 @@ static void real(const char *folder, const char *almanac_file) {
     check("as many bytes as wanted", bytes == 3725);
     file_holds("the bytes that are wanted", wanted, bytes);
     expect("check them", hzk_check_file(wanted, bytes, fresh()), ANSWERED(28, 30, 371));
+    rebuilds(wanted, bytes);
 }
 
 int main(int argc, char **argv) {

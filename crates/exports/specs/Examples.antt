@@ -15,7 +15,7 @@ use Rattle.series.specs.declared.Body.{Body}
 use Rattle.series.specs.declared.Body.the-variants.{Sun, Moon}
 use Rattle.months.specs.declared.Sui.{Sui}
 use Rattle.build.specs.Build.{wordsOf}
-use Rattle.exports.specs.Record.{numberOf, recordOf, noNumbers, dateNumbers, dayNumbers, milliNumbers, shownNumbers, valueNumbers, countNumbers, fileNumbers, bodyOf}
+use Rattle.exports.specs.Record.{numberOf, recordOf, noNumbers, dateNumbers, dayNumbers, milliNumbers, shownNumbers, valueNumbers, countNumbers, fileNumbers, rebuiltNumbers, bodyOf}
 use Rattle.exports.specs.Months.{suiWords, suiInto, suiNumbers}
 
 -- ---- how the examples are written
@@ -51,6 +51,10 @@ examples =
     ∷ sameWords (recordOf (answered (negsuc 0)) valueNumbers) (zero9 (pos 0) (pos 0) (negsuc 0))
     ∷ sameWords (recordOf (answered 0) countNumbers) (zero9 (pos 0) (pos 0) (pos 0))
     ∷ sameWords (recordOf (answered (record { entries = 64; suis = 128; months = 1664 })) fileNumbers) (nine (pos 0) (pos 0) (pos 64) (pos 128) (pos 1664) (pos 0) (pos 0) (pos 0) (pos 0))
+    -- of a rebuild the bytes come first, then the years
+    ∷ sameWords (recordOf (answered (record { bytes = 16140; years = 128 })) rebuiltNumbers) (nine (pos 0) (pos 0) (pos 16140) (pos 128) (pos 0) (pos 0) (pos 0) (pos 0) (pos 0))
+    ∷ sameWords (recordOf (answered (record { bytes = 133; years = 0 })) rebuiltNumbers) (zero9 (pos 0) (pos 0) (pos 133))
+    ∷ sameWords (recordOf (refused 13 0) rebuiltNumbers) (zero9 (pos 13) (pos 0) (pos 0))
     -- a judge's answer has no numbers
     ∷ sameWords (recordOf accepted noNumbers) (zero9 (pos 0) (pos 0) (pos 0))
     -- a shown time fills the record

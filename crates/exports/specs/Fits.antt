@@ -8,6 +8,7 @@ use lib.Dec.{T, ltb, leb}
 use Rattle.refusals.specs.Verdict.{Verdict, answered, refused, refuseWhen, _before_, _then_}
 use Rattle.clock.specs.declared.ShownTime.{ShownTime}
 use Rattle.almanac.specs.declared.Counts.{Counts}
+use Rattle.rebuild.specs.declared.Rebuilt.{Rebuilt}
 
 -- the segment of a refusal, and the size of an answer
 abbrev pub Small : {A : Type 0} → (A → ℕ) → Verdict A → Type 0
@@ -40,6 +41,10 @@ shownSize t = t .hour + (t .minute + (t .second + t .millisecond))
 -- of a file
 abbrev pub fileSize : Counts → ℕ
 fileSize n = n .entries + (n .suis + n .months)
+
+-- of a rebuild
+abbrev pub rebuiltSize : Rebuilt → ℕ
+rebuiltSize n = n .bytes + n .years
 
 -- ---- in a chain
 pub answer : {A : Type 0} {size : A → ℕ} {a : A} → size a < 2 ^ 63 → Fits size (answered a)

@@ -24,7 +24,8 @@ use Rattle.sui.specs.Sui.{suiFor}
 use Rattle.content.specs.Content.{Content}
 use Rattle.almanac.specs.Answers.{checkedFile, contentRead, readFile, bytesToWrite, all-bytes, writtenFile}
 use Rattle.build.specs.Build.{bytesBuilt, fileBuilt}
-use Rattle.exports.specs.Record.{numberOf, recordOf, noNumbers, dateNumbers, dayNumbers, milliNumbers, shownNumbers, valueNumbers, countNumbers, fileNumbers}
+use Rattle.rebuild.specs.Rebuild.{rebuilt, counted, new-bytes, kept-years}
+use Rattle.exports.specs.Record.{numberOf, recordOf, noNumbers, dateNumbers, dayNumbers, milliNumbers, shownNumbers, valueNumbers, countNumbers, fileNumbers, rebuiltNumbers}
 use Rattle.exports.specs.Months.{suiInto, suiWords, suiNumbers}
 
 -- ---- the law
@@ -134,3 +135,14 @@ module _ (c : Content) (file : List ℕ) where
 
   pub hzk-write-file-one-content : OneContent (bytesToWrite c (length file)) all-bytes file
   hzk-write-file-one-content = one-content
+
+-- ---- the rebuild
+module _ (old new : Inputs) (oldFile file : List ℕ) (years : List ℤ) where
+  pub hzk-rebuild-one-result : OneResult (counted (rebuilt old new utc8 oldFile (length file) (length years))) rebuiltNumbers
+  hzk-rebuild-one-result = one-result (counted (rebuilt old new utc8 oldFile (length file) (length years))) rebuiltNumbers
+
+  pub hzk-rebuild-one-content : OneContent (rebuilt old new utc8 oldFile (length file) (length years)) new-bytes file
+  hzk-rebuild-one-content = one-content
+
+  pub hzk-rebuild-one-list : OneContent (rebuilt old new utc8 oldFile (length file) (length years)) kept-years years
+  hzk-rebuild-one-list = one-content

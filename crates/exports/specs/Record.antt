@@ -13,6 +13,7 @@ use Rattle.clock.specs.declared.ShownTime.{ShownTime}
 use Rattle.series.specs.declared.Body.{Body}
 use Rattle.series.specs.declared.Body.the-variants.{Sun, Moon}
 use Rattle.almanac.specs.declared.Counts.{Counts}
+use Rattle.rebuild.specs.declared.Rebuilt.{Rebuilt}
 
 -- what a call returns
 abbrev pub numberOf : {A : Type 0} → Verdict A → ℤ
@@ -51,6 +52,10 @@ countNumbers n = pos n ∷ []
 
 abbrev pub fileNumbers : Counts → List ℤ
 fileNumbers n = pos (n .entries) ∷ pos (n .suis) ∷ pos (n .months) ∷ []
+
+-- how many bytes, and how many years are listed
+abbrev pub rebuiltNumbers : Rebuilt → List ℤ
+rebuiltNumbers n = pos (n .bytes) ∷ pos (n .years) ∷ []
 
 -- ---- which body a flag says
 abbrev pub bodyOf : Bool → Body

@@ -1,4 +1,4 @@
-// The almanac file: checked, read, written and built.
+// The almanac file: checked, read, written, built and rebuilt.
 use crate::record;
 use times::Second;
 ghost use mathlib.Core.Path.{_≡_};
@@ -9,7 +9,8 @@ ghost use Rattle.inputs.specs.Inputs.{inputs};
 ghost use Rattle.content.specs.Content.{content, leap-words, sui-words, month-words};
 ghost use Rattle.almanac.specs.Answers.{checkedFile, contentRead, readFile, bytesToWrite, all-bytes, writtenFile};
 ghost use Rattle.build.specs.Build.{bytesBuilt, fileBuilt};
-ghost use Rattle.exports.specs.Record.{numberOf, recordOf, countNumbers, fileNumbers};
+ghost use Rattle.rebuild.specs.Rebuild.{rebuilt, counted, new-bytes, kept-years};
+ghost use Rattle.exports.specs.Record.{numberOf, recordOf, countNumbers, fileNumbers, rebuiltNumbers};
 
 // Checks a file.
 #[no_mangle]
@@ -84,4 +85,45 @@ pub extern "C" fn hzk_build(
         file,
     );
     record::tell(record::written_record(built), answer)
+}
+
+// Rebuilds an old file from new inputs, and lists the years of the suis whose days stay as they were.
+#[no_mangle]
+pub extern "C" fn hzk_rebuild(
+    old: &[u8],
+    oldleap: &[i64],
+    oldsunstart: i64,
+    oldsun: &[i64],
+    oldmoonstart: i64,
+    oldmoon: &[i64],
+    leap: &[i64],
+    sunstart: i64,
+    sun: &[i64],
+    moonstart: i64,
+    moon: &[i64],
+    file: &mut [u8],
+    years: &mut [i64],
+    answer: &mut [i64; 9],
+) -> i64
+    ensures { λ r. ⌜ r ≡ numberOf (counted (rebuilt (inputs (now (oldleap .entry)) oldsunstart (now (oldsun .entry)) oldmoonstart (now (oldmoon .entry))) (inputs (now (leap .entry)) sunstart (now (sun .entry)) moonstart (now (moon .entry))) utc8 (now (old .entry)) (length (now (file .entry))) (length (now (years .entry))))) ⌝ }
+    ensures { λ r. ⌜ now (answer .exit) ≡ recordOf (counted (rebuilt (inputs (now (oldleap .entry)) oldsunstart (now (oldsun .entry)) oldmoonstart (now (oldmoon .entry))) (inputs (now (leap .entry)) sunstart (now (sun .entry)) moonstart (now (moon .entry))) utc8 (now (old .entry)) (length (now (file .entry))) (length (now (years .entry))))) rebuiltNumbers ⌝ }
+    ensures { λ r. ⌜ now (file .exit) ≡ writtenInto (rebuilt (inputs (now (oldleap .entry)) oldsunstart (now (oldsun .entry)) oldmoonstart (now (oldmoon .entry))) (inputs (now (leap .entry)) sunstart (now (sun .entry)) moonstart (now (moon .entry))) utc8 (now (old .entry)) (length (now (file .entry))) (length (now (years .entry)))) new-bytes (now (file .entry)) ⌝ }
+    ensures { λ r. ⌜ now (years .exit) ≡ writtenInto (rebuilt (inputs (now (oldleap .entry)) oldsunstart (now (oldsun .entry)) oldmoonstart (now (oldmoon .entry))) (inputs (now (leap .entry)) sunstart (now (sun .entry)) moonstart (now (moon .entry))) utc8 (now (old .entry)) (length (now (file .entry))) (length (now (years .entry)))) kept-years (now (years .entry)) ⌝ }
+{
+    let rebuilt = rebuild::rebuild(
+        old,
+        oldleap,
+        Second(oldsunstart),
+        oldsun,
+        Second(oldmoonstart),
+        oldmoon,
+        leap,
+        Second(sunstart),
+        sun,
+        Second(moonstart),
+        moon,
+        file,
+        years,
+    );
+    record::tell(record::rebuilt_record(rebuilt), answer)
 }

@@ -9,6 +9,8 @@ use dates::DateAnswer;
 use dates::DayAnswer;
 use marks::CountAnswer;
 use marks::ListAnswer;
+use rebuild::RebuildAnswer;
+use rebuild::Rebuilt;
 use refusals::Check;
 use refusals::Refusal;
 use series::ValueAnswer;
@@ -24,8 +26,9 @@ ghost use Rattle.clock.specs.Answers.{paperMilli, paperShown};
 ghost use Rattle.series.specs.Acceptance.{paperValue};
 ghost use Rattle.marks.specs.Answers.{paperCount, paperList};
 ghost use Rattle.almanac.specs.Answers.{paperFile, paperWritten};
-ghost use Rattle.exports.specs.Record.{recordOf, noNumbers, dateNumbers, dayNumbers, milliNumbers, shownNumbers, valueNumbers, countNumbers, fileNumbers};
-ghost use Rattle.exports.specs.Fits.{Fits, none, shownSize, fileSize, itself};
+ghost use Rattle.rebuild.specs.Rebuild.{paperRebuilt};
+ghost use Rattle.exports.specs.Record.{recordOf, noNumbers, dateNumbers, dayNumbers, milliNumbers, shownNumbers, valueNumbers, countNumbers, fileNumbers, rebuiltNumbers};
+ghost use Rattle.exports.specs.Fits.{Fits, none, shownSize, fileSize, rebuiltSize, itself};
 
 // Into the caller's record, and its number.
 pub fn tell(words: [i64; 9], answer: &mut [i64; 9]) -> i64
@@ -187,5 +190,25 @@ pub fn written_record(answer: WriteAnswer) -> [i64; 9]
     match answer {
         WriteAnswer::Written(n) => counted(n),
         WriteAnswer::Refused(r) => refused(r),
+    }
+}
+
+// Bytes of the new file, and years listed.
+fn rebuilt_words(n: Rebuilt) -> [i64; 9]
+    requires { ⌜ rebuiltSize n < 2 ^ 63 ⌝ }
+    ensures { λ r. ⌜ r ≡ recordOf (answered n) rebuiltNumbers ⌝ }
+{
+    let bytes = signed(n.bytes);
+    let years = signed(n.years);
+    [0, 0, bytes, years, 0, 0, 0, 0, 0]
+}
+
+pub fn rebuilt_record(answer: RebuildAnswer) -> [i64; 9]
+    requires { ⌜ Fits rebuiltSize (paperRebuilt answer) ⌝ }
+    ensures { λ r. ⌜ r ≡ recordOf (paperRebuilt answer) rebuiltNumbers ⌝ }
+{
+    match answer {
+        RebuildAnswer::Rebuilt(n) => rebuilt_words(n),
+        RebuildAnswer::Refused(r) => refused(r),
     }
 }

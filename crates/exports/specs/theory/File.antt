@@ -1,13 +1,14 @@
--- The almanac file and its build: the numbers of their answers and refusals fit a word. Assumes nothing but what a statement says itself.
+-- The almanac file, its build and its rebuild: the numbers of their answers and refusals fit a word. Assumes nothing but what a statement says itself.
 use mathlib.Core.Path.{_≡_, sym, ap, _∙_}
-use mathlib.Core.Bool.{not}
-use mathlib.Core.List.{List}
+use mathlib.Core.Bool.{Bool, true, false, cond, not}
+use mathlib.Core.List.{List, [], _∷_}
 use Prim.Native.Nat.{ℕ, zero, suc, _+_, _^_, _<_, _≤_}
 use native.Mathlib.Omega.{arith}
 use borrow.Author.Tests.{ltb-false}
 use lib.Dec.{ltb, eqb}
 use lib.IntN.{ℤ, pos, natAbs, _+ℤ_}
-use lib.ListN.{length}
+use lib.ListN.{length, length-append}
+use Rattle.whole.specs.Ranges.{Within}
 use Rattle.whole.specs.Tests.{inRange}
 use Rattle.words.specs.Words.{pattern4}
 use Rattle.refusals.specs.Verdict.{answered, refuseWhen, _before_, answers-apart, test-answered, then-answered}
@@ -20,7 +21,11 @@ use Rattle.almanac.specs.theory.Reader.{checked}
 use Rattle.build.specs.Build.{suisBy, contentBy, bytesBy, builtBy, contentBuilt, bytesOfYears, bytesBuilt, fileBuilt}
 use Rattle.sui.specs.Sui.{suiOfYear}
 use Rattle.sui.specs.theory.Answered.{inputs-answered}
-use Rattle.exports.specs.Fits.{Fits, none, itself, fileSize, answer, test, _and_, and-then, with-answer}
+use Rattle.rebuild.specs.declared.Rebuilt.{Rebuilt}
+use Rattle.rebuild.specs.Rebuild.{NewFile, yearsIn, isFile, mostBytes, givenBy, newFileBy, rebuiltBy, keptBy, kept, rebuilt, counted}
+use Rattle.rebuild.specs.Theorems.{rebuilt-is-fresh, given-means, most-bytes-are-enough}
+use Rattle.rebuild.specs.theory.Judging.{years-few}
+use Rattle.exports.specs.Fits.{Fits, none, itself, fileSize, rebuiltSize, answer, test, _and_, and-then, with-answer}
 use Rattle.exports.specs.theory.Sky.{inputs-fit}
 use Rattle.exports.specs.theory.Suis.{sui-of-year-fits}
 
@@ -101,15 +106,59 @@ module _ (i : Inputs) (zone : ℤ) where
   unfolding bytesBy
   years-within-room first n room bytes e = let made = then-answered (contentBuilt i zone first n) (λ c. bytesInto c room) bytes e in within-room (made .0) room bytes (made .2)
 
-  pub build-fits : length (i .sunCoefs) < 2 ^ 63 → length (i .moonCoefs) < 2 ^ 63 → (first count : ℤ) (room : ℕ) → room < 2 ^ 63 → Fits itself (fileBuilt i zone first count room)
-  unfolding fileBuilt builtBy
-  build-fits h k first count room r =
-      let bad = not (inRange (pos 1) (pos 128) count) in
-      with-answer (and-then (inputs-fit i h k and test bad 8 tt and bytes-fit first (natAbs count) room) (λ bytes. answer (omega arith)))
-      (λ n e.
-      let all = then-answered (bytesBuilt i zone first count room) (λ (bytes : List ℕ). answered (length bytes)) n e in
-      let judged = inputs-answered i (refuseWhen bad 8 before bytesOfYears i zone first (natAbs count) room) (all .1) in
-      let built = test-answered bad 8 (bytesOfYears i zone first (natAbs count) room) (all .0) (judged .1) in
-      let few = years-within-room first (natAbs count) room (all .0) (built .1) in
-      let same : length (all .0) ≡ n = answers-apart (all .2) in
-      omega arith)
+  module _ (first count : ℤ) (room : ℕ) where
+    built-within-room : (bytes : List ℕ) → bytesBuilt i zone first count room ≡ answered bytes → length bytes ≤ room
+    unfolding builtBy
+    built-within-room bytes e =
+        let bad = not (inRange (pos 1) (pos 128) count) in
+        let judged = inputs-answered i (refuseWhen bad 8 before bytesOfYears i zone first (natAbs count) room) e in
+        let built = test-answered bad 8 (bytesOfYears i zone first (natAbs count) room) bytes (judged .1) in
+        years-within-room first (natAbs count) room bytes (built .1)
+
+    bytes-built-fit : length (i .sunCoefs) < 2 ^ 63 → length (i .moonCoefs) < 2 ^ 63 → Fits none (bytesBuilt i zone first count room)
+    unfolding builtBy
+    bytes-built-fit h k = inputs-fit i h k and test (not (inRange (pos 1) (pos 128) count)) 8 tt and bytes-fit first (natAbs count) room
+
+    pub build-fits : length (i .sunCoefs) < 2 ^ 63 → length (i .moonCoefs) < 2 ^ 63 → room < 2 ^ 63 → Fits itself (fileBuilt i zone first count room)
+    unfolding fileBuilt
+    build-fits h k r =
+        with-answer (and-then (bytes-built-fit h k) (λ bytes. answer (omega arith)))
+        (λ n e.
+        let all = then-answered (bytesBuilt i zone first count room) (λ (bytes : List ℕ). answered (length bytes)) n e in
+        let few = built-within-room (all .0) (all .1) in
+        let same : length (all .0) ≡ n = answers-apart (all .2) in
+        omega arith)
+
+-- ---- a rebuild gives as many bytes as a file has, at most, and a year for each sui of the old file, at most
+few-years : (kept : ℤ → Bool) (first : ℤ) (n : ℕ) → length (keptBy kept first n) ≤ n
+unfolding keptBy
+few-years kept first zero = omega arith
+few-years kept first (suc n) =
+    let one = at-most-one (kept (first +ℤ pos n)) in
+    omega (arith, few-years kept first n, length-append (keptBy kept first n) (cond (kept (first +ℤ pos n)) ((first +ℤ pos n) ∷ []) []), one)
+  where
+    at-most-one : (b : Bool) → length (cond b ((first +ℤ pos n) ∷ []) []) ≤ 1
+    at-most-one true = omega arith
+    at-most-one false = omega arith
+
+module _ (old new : Inputs) (zone : ℤ) (file : List ℕ) (room places : ℕ) where
+  rebuilt-fits : length (new .sunCoefs) < 2 ^ 63 → length (new .moonCoefs) < 2 ^ 63 → Fits none (rebuilt old new zone file room places)
+  unfolding rebuiltBy newFileBy givenBy
+  rebuilt-fits h k =
+      and-then
+      (and-then (file-of-fits file) (λ c. test (not (isFile (bytesBuilt old zone (yearsIn c .first) (pos (yearsIn c .count)) mostBytes) file)) 13 tt and answer (omega arith)))
+      (λ y. and-then (bytes-built-fit new zone (y .first) (pos (y .count)) room h k) (λ bytes. test (ltb places (length (keptBy (kept old new zone) (y .first) (y .count)))) 12 tt and answer (omega arith)))
+
+  pub rebuild-fits : Within 1000 zone → length (new .sunCoefs) < 2 ^ 63 → length (new .moonCoefs) < 2 ^ 63 → Fits rebuiltSize (counted (rebuilt old new zone file room places))
+  rebuild-fits small h k =
+      with-answer (and-then (rebuilt-fits h k) (λ n. answer (omega arith)))
+      (λ r e.
+      let all = then-answered (rebuilt old new zone file room places) (λ (n : NewFile). answered (record { bytes = length (n .bytes); years = length (n .years) })) r e in
+      let fresh = rebuilt-is-fresh old new zone file room places (all .1) in
+      let y = fresh .years in
+      let few = built-within-room new zone (y .first) (pos (y .count)) mostBytes (all .0 .bytes) (most-bytes-are-enough new zone (y .first) (pos (y .count)) room (fresh .is-fresh) small) in
+      let listed = few-years (kept old new zone) (y .first) (y .count) in
+      let is-given = given-means old new zone file y .0 (fresh .is-given) in
+      let many = years-few file {y = y} (rw (is-given .is-read) (ap answered (is-given .years-are))) .1 in
+      let same : record { bytes = length (all .0 .bytes); years = length (all .0 .years) } ≡ r = answers-apart (all .2) in
+      omega (arith, few, listed, many, ap length (fresh .are-kept), ap (λ (r : Rebuilt). r .bytes) same, ap (λ (r : Rebuilt). r .years) same))

@@ -37,7 +37,7 @@ written-record-requires c κs =
     let found = c .before .before in
     let start = found .before .before .before in
     let room = start .good .1 .1 .1 .1 .1 .1 .1 .0 in
-    rw (said found .0) (build-fits (given start) utc8 (omega arith) (omega arith) (start .args .first) (start .args .count) (length (start .args .file .now)) (omega arith))
+    rw (said found .0) (build-fits (given start) utc8 (start .args .first) (start .args .count) (length (start .args .file .now)) (omega arith) (omega arith) (omega arith))
 
 tell-requires : tie.Need-tell-requires
 tell-requires c κs = search needs
