@@ -1,5 +1,5 @@
-pub mod Compared
 pub mod Parts
+pub mod Compared
 pub mod Shifted
 pub mod Judged
 pub mod Values

@@ -29,7 +29,7 @@ pub fn end_of(end: usize, count: usize) -> usize
 }
 
 // The part of the coefficients from one segment on and before another.
-fn part_of(coefs: &[i64], from: usize, to: usize) -> &[i64]
+pub fn part_of(coefs: &[i64], from: usize, to: usize) -> &[i64]
     requires { ⌜ from ≤ to ⌝ }
     requires { ⌜ to ≤ segments (now coefs) ⌝ }
     ensures { λ r. ⌜ now r ≡ partOf (now (coefs .entry)) from to ⌝ }

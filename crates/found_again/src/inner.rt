@@ -1,5 +1,5 @@
 // For the rebuild of a file: the days ahead of n suis under corrected inputs. The zone is in minutes.
-use alike::same_words;
+use alike::inner::same_words;
 use build::inner::ahead::Reach;
 use build::inner::ahead::find_ahead;
 use corrected::inner::Changed;
@@ -22,8 +22,6 @@ ghost use Rattle.turns.specs.Listed.{turnIndexOf};
 ghost use Rattle.corrected.specs.Shared.{Shared};
 ghost use Rattle.build.specs.theory.Walk.{Begins, Walks};
 ghost use Rattle.found_again.specs.Begin.{beginAlike};
-
-pub mod alike;
 
 // The days ahead by those from before, where leap table and starts are the same and the first turns have the same indices.
 fn find_by(

@@ -1,4 +1,3 @@
-pub mod Alike
 pub mod Records
 pub mod Given
 pub mod Kept

@@ -10,7 +10,6 @@ ghost use Rattle.clock.specs.Clock.{utc8};
 ghost use Rattle.inputs.specs.Inputs.{inputs};
 ghost use Rattle.rebuild.specs.Rebuild.{rebuilt, paperRebuilt, counted, new-bytes, kept-years};
 
-mod alike;
 mod days;
 mod known;
 mod new;

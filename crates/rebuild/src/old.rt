@@ -1,5 +1,5 @@
 // The old file: whether inputs give it, and its years.
-use super::alike::same_bytes;
+use alike::inner::same_bytes;
 use almanac::FileAnswer;
 use almanac::WriteAnswer;
 use almanac::check_file;

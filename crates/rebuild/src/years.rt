@@ -1,7 +1,7 @@
 // The suis of consecutive years, put again: where the days of a sui are the old ones its months come from the old file, else they are made. Its year is listed
 // where they are copied.
-use super::alike::same_words;
 use super::days::days_words;
+use alike::inner::same_words;
 use almanac::inner::read_months;
 use build::inner::records::put_months;
 use build::inner::records::put_sui;

@@ -25,7 +25,7 @@ use Rattle.suis.specs.declared.inner.Places.{Places}
 use Rattle.suis.specs.Ahead.{solsticesBefore}
 use Rattle.build.specs.theory.Walk.{Begins, Walks}
 use Rattle.found_again.specs.Begin.{beginAlike}
-use Rattle.found_again.specs.theory.Alike.{words-are}
+use Rattle.alike.specs.Alike.{words-are}
 
 module _ {i : Inputs} {zone : ℤ} {suns moons : TurnList} {places : Places} {first : ℤ} {n : ℕ} (begun : Begins i zone suns moons places first n) where
   pub solstice-listed : places .solstice < turnsOf (sun i)

@@ -33,7 +33,7 @@ use Rattle.build.specs.theory.Records.{suiAt, none-before, months-more, count-a
 use Rattle.build.specs.theory.Years.{suis-are}
 use Rattle.rebuild.specs.Rebuild.{mostBytes, daysWords, sameDays, isKept, keptBy, kept}
 use Rattle.rebuild.specs.theory.Again.{isSameAs, monthsAtPlace, listedAgain, Copies}
-use Rattle.rebuild.specs.theory.Alike.{words-are, words-alike}
+use Rattle.alike.specs.Alike.{words-are, words-alike}
 use Rattle.rebuild.specs.theory.Kept.{fourteen-moons, same-days}
 use Rattle.rebuild.specs.theory.Old.{AllFound, DaysOf, daysOfYears, days-of, words-of, days-long, days-at}
 use Rattle.rebuild.specs.theory.Records.{words-in-turn, fewer-found, own-words, words-before}

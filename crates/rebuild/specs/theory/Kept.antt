@@ -16,7 +16,7 @@ use Rattle.months.specs.theory.Listed.{at-most-thirteen}
 use Rattle.sui.specs.Sui.{newMoonDays, zhongqiDays, suiDays}
 use Rattle.sui.specs.theory.Answered.{days-found}
 use Rattle.rebuild.specs.Rebuild.{daysWords, sameDays, isKept}
-use Rattle.rebuild.specs.theory.Alike.{words-are, words-alike}
+use Rattle.alike.specs.Alike.{words-are, words-alike}
 
 -- ---- the days of a sui have fourteen places for new moons ..
 fourteen-found : (moons zhongqi : List ℤ) {days : SuiDays} → daysOf moons zhongqi ≡ answered days → length (days .moons) ≡ 14

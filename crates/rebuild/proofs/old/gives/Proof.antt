@@ -18,7 +18,7 @@ use Rattle.rebuild.proofs.old.gives.Tie as tie
 use Rattle.rebuild.proofs.old.gives.Reads as reads
 use Rattle.rebuild.proofs.old.gives.Lts as lts
 use Rattle.build.proofs.inner.ahead.build_from.Reads as build-from-reads
-use Rattle.rebuild.proofs.alike.same_bytes.Reads as same-bytes-reads
+use Rattle.alike.proofs.inner.same_bytes.Reads as same-bytes-reads
 use Rattle.rebuild.proofs.old.file_room.Reads as file-room-reads
 
 abbrev called : lts.Claims

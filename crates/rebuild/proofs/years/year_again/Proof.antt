@@ -26,7 +26,7 @@ use Rattle.rebuild.proofs.years.year_again.Statement.{statement}
 use Rattle.rebuild.proofs.years.year_again.Tie as tie
 use Rattle.rebuild.proofs.years.year_again.Reads as reads
 use Rattle.rebuild.proofs.years.year_again.Lts as lts
-use Rattle.rebuild.proofs.alike.same_words.Reads as same-words-reads
+use Rattle.alike.proofs.inner.same_words.Reads as same-words-reads
 use Rattle.rebuild.proofs.days.days_words.Reads as days-words-reads
 use Rattle.rebuild.proofs.years.list_year.Reads as list-year-reads
 use Rattle.rebuild.proofs.years.put_again.Reads as put-again-reads

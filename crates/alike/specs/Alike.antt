@@ -1,38 +1,37 @@
 -- When two lists are the same, by the tests that say so: of words, of bytes. Assumes nothing.
 use mathlib.Core.Path.{_≡_, refl, sym, ap, ap₂, _∙_}
-use mathlib.Core.Bool.{Bool, true, false, _&&_}
-use mathlib.Core.List.{List, [], _∷_, _++_}
-use Prim.Native.Nat.{ℕ, suc, _+_, _<_, _≤_}
+use mathlib.Core.Bool.{Bool, true, false}
+use mathlib.Core.List.{List, [], _∷_}
+use Prim.Native.Nat.{ℕ}
 use native.Mathlib.Omega.{arith}
 use borrow.Author.Tests.{eqb-true, eq-eqb}
 use lib.Dec.{eqb}
 use lib.IntN.{ℤ, pos, negsuc}
-use lib.ListN.{length, getD, take}
-use lib.Seq.{take-suc, take-all}
 use Rattle.whole.specs.Booleans.{both}
 use Rattle.whole.specs.Evaluated.{same, sameNumbers, sameWords}
 
--- ---- one by one
+nothing-true : {A : Type 0} → false ≡ true → A
+nothing-true e = let z : _≡_ {A = ℕ} 0 1 = cc in absurd (omega arith)
+
+-- a test that tells of equals, and only of them, tells that others are unlike
+unlike : {A : Type 0} (test : A → A → Bool) (a b : A) → (test a b ≡ true → a ≡ b) → (a ≡ b → ⊥) → false ≡ test a b
+unlike test a b are differ = go (test a b) refl
+  where
+    go : (t : Bool) → test a b ≡ t → false ≡ t
+    go true q = absurd (differ (are q))
+    go false q = refl
+
+-- ---- lists of words
 same-itself : (z : ℤ) → same z z ≡ true
 same-itself (pos n) = eq-eqb n n refl
 same-itself (negsuc n) = eq-eqb n n refl
 
 same-is : (a b : ℤ) → same a b ≡ true → a ≡ b
 same-is (pos a) (pos b) e = ap pos (eqb-true a b e)
-same-is (pos a) (negsuc b) e = absurd (false-true e)
-  where
-    false-true : false ≡ true → ⊥
-    false-true e = let z : _≡_ {A = ℕ} 0 1 = cc in absurd (omega arith)
-same-is (negsuc a) (pos b) e = absurd (false-true e)
-  where
-    false-true : false ≡ true → ⊥
-    false-true e = let z : _≡_ {A = ℕ} 0 1 = cc in absurd (omega arith)
+same-is (pos a) (negsuc b) e = nothing-true e
+same-is (negsuc a) (pos b) e = nothing-true e
 same-is (negsuc a) (negsuc b) e = ap negsuc (eqb-true a b e)
 
-nothing-true : {A : Type 0} → false ≡ true → A
-nothing-true e = let z : _≡_ {A = ℕ} 0 1 = cc in absurd (omega arith)
-
--- ---- lists of words
 words-themselves : (l : List ℤ) → sameWords l l ≡ true
 words-themselves [] = refl
 words-themselves (z ∷ l) = rw (same-itself z) (words-themselves l)
@@ -47,11 +46,7 @@ pub words-alike : {a b : List ℤ} → a ≡ b → true ≡ sameWords a b
 words-alike {a} {b} e = sym (ap (sameWords a) (sym e) ∙ words-themselves a)
 
 pub words-unlike : {a b : List ℤ} → (a ≡ b → ⊥) → false ≡ sameWords a b
-words-unlike {a} {b} e = go (sameWords a b) refl
-  where
-    go : (t : Bool) → sameWords a b ≡ t → false ≡ t
-    go true q = absurd (e (words-are a b q))
-    go false q = refl
+words-unlike {a} {b} differ = unlike sameWords a b (words-are a b) differ
 
 -- ---- lists of bytes
 bytes-themselves : (l : List ℕ) → sameNumbers l l ≡ true
@@ -68,18 +63,4 @@ pub bytes-alike : {a b : List ℕ} → a ≡ b → true ≡ sameNumbers a b
 bytes-alike {a} {b} e = sym (ap (sameNumbers a) (sym e) ∙ bytes-themselves a)
 
 pub bytes-unlike : {a b : List ℕ} → (a ≡ b → ⊥) → false ≡ sameNumbers a b
-bytes-unlike {a} {b} e = go (sameNumbers a b) refl
-  where
-    go : (t : Bool) → sameNumbers a b ≡ t → false ≡ t
-    go true q = absurd (e (bytes-are a b q))
-    go false q = refl
-
--- ---- one by one, from the front
-module _ {A : Type 0} (a b : List A) where
-  pub front-more : (i : ℕ) (d : A) → i < length a → i < length b → take i a ≡ take i b → getD a i d ≡ getD b i d → take (i + 1) a ≡ take (i + 1) b
-  front-more i d h l e q =
-      let next : i + 1 ≡ suc i = omega arith in
-      ap (λ (k : ℕ). take k a) next ∙ take-suc a i d h ∙ ap₂ (λ (x : List A) (y : A). x ++ (y ∷ [])) e q ∙ sym (take-suc b i d l) ∙ ap (λ (k : ℕ). take k b) (sym next)
-
-  pub front-all : (i : ℕ) → length a ≤ i → length b ≤ i → take i a ≡ take i b → a ≡ b
-  front-all i h l e = sym (take-all i a h) ∙ e ∙ take-all i b l
+bytes-unlike {a} {b} differ = unlike sameNumbers a b (bytes-are a b) differ

@@ -1,4 +1,4 @@
-// Whether two lists are the same: of words, of bytes.
+// Whether two lists are the same. Every bit is compared, whatever the first ones say: the loop has no other way out, so that many words are compared at once.
 ghost use mathlib.Core.Path.{_≡_};
 ghost use Rattle.whole.specs.Evaluated.{sameNumbers, sameWords};
 
@@ -9,14 +9,13 @@ pub fn same_words(a: &[i64], b: &[i64]) -> bool
     if b.len() != n {
         return false;
     }
+    let mut differing: i64 = 0;
     let mut i: usize = 0;
     while i < n {
-        if a[i] != b[i] {
-            return false;
-        }
+        differing = differing | (a[i] ^ b[i]);
         i += 1;
     }
-    true
+    differing == 0
 }
 
 pub fn same_bytes(a: &[u8], b: &[u8]) -> bool
@@ -26,12 +25,11 @@ pub fn same_bytes(a: &[u8], b: &[u8]) -> bool
     if b.len() != n {
         return false;
     }
+    let mut differing: u8 = 0;
     let mut i: usize = 0;
     while i < n {
-        if a[i] != b[i] {
-            return false;
-        }
+        differing = differing | (a[i] ^ b[i]);
         i += 1;
     }
-    true
+    differing == 0
 }

@@ -1,0 +1,2 @@
+// Whether two lists are the same, words or bytes.
+pub mod inner;
