@@ -8,7 +8,7 @@ use lib.Dec.{T, ltb, leb}
 use Rattle.refusals.specs.Verdict.{Verdict, answered, refused, refuseWhen, _before_, _then_}
 use Rattle.clock.specs.declared.ShownTime.{ShownTime}
 use Rattle.almanac.specs.declared.Counts.{Counts}
-use Rattle.rebuild.specs.declared.Rebuilt.{Rebuilt}
+use Rattle.rebuilt.specs.declared.Rebuilt.{Rebuilt}
 
 -- the segment of a refusal, and the size of an answer
 abbrev pub Small : {A : Type 0} → (A → ℕ) → Verdict A → Type 0

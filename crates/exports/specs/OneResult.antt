@@ -24,7 +24,7 @@ use Rattle.sui.specs.Sui.{suiFor}
 use Rattle.content.specs.Content.{Content}
 use Rattle.almanac.specs.Answers.{checkedFile, contentRead, readFile, bytesToWrite, all-bytes, writtenFile}
 use Rattle.build.specs.Build.{bytesBuilt, fileBuilt}
-use Rattle.rebuild.specs.Rebuild.{rebuilt, counted, new-bytes, kept-years}
+use Rattle.rebuilt.specs.Rebuild.{rebuilt, counted, new-bytes, kept-years}
 use Rattle.exports.specs.Record.{numberOf, recordOf, noNumbers, dateNumbers, dayNumbers, milliNumbers, shownNumbers, valueNumbers, countNumbers, fileNumbers, rebuiltNumbers}
 use Rattle.exports.specs.Months.{suiInto, suiWords, suiNumbers}
 

@@ -13,7 +13,7 @@ use Rattle.clock.specs.declared.ShownTime.{ShownTime}
 use Rattle.series.specs.declared.Body.{Body}
 use Rattle.series.specs.declared.Body.the-variants.{Sun, Moon}
 use Rattle.almanac.specs.declared.Counts.{Counts}
-use Rattle.rebuild.specs.declared.Rebuilt.{Rebuilt}
+use Rattle.rebuilt.specs.declared.Rebuilt.{Rebuilt}
 
 -- what a call returns
 abbrev pub numberOf : {A : Type 0} → Verdict A → ℤ

@@ -9,7 +9,7 @@ ghost use Rattle.inputs.specs.Inputs.{inputs};
 ghost use Rattle.content.specs.Content.{content, leap-words, sui-words, month-words};
 ghost use Rattle.almanac.specs.Answers.{checkedFile, contentRead, readFile, bytesToWrite, all-bytes, writtenFile};
 ghost use Rattle.build.specs.Build.{bytesBuilt, fileBuilt};
-ghost use Rattle.rebuild.specs.Rebuild.{rebuilt, counted, new-bytes, kept-years};
+ghost use Rattle.rebuilt.specs.Rebuild.{rebuilt, counted, new-bytes, kept-years};
 ghost use Rattle.exports.specs.Record.{numberOf, recordOf, countNumbers, fileNumbers, rebuiltNumbers};
 
 // Checks a file.

@@ -1,4 +1,1 @@
-pub mod Rebuild
 pub mod theory
-pub mod Theorems
-pub mod Examples

@@ -1,7 +1,3 @@
-pub mod Records
-pub mod Given
-pub mod Kept
-pub mod Listed
 pub mod Again
 pub mod Putting
 pub mod Old

@@ -12,7 +12,7 @@ ghost use lib.ListN.{length};
 ghost use Rattle.whole.specs.Lists.{placed};
 ghost use Rattle.inputs.specs.Inputs.{inputs};
 ghost use Rattle.build.specs.theory.Walk.{Walks};
-ghost use Rattle.rebuild.specs.Rebuild.{daysWords};
+ghost use Rattle.rebuilt.specs.Rebuild.{daysWords};
 ghost use Rattle.rebuild.specs.theory.Old.{AllFound, daysOfYears};
 
 // Words, put into lent ones.

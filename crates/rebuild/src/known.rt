@@ -1,5 +1,4 @@
-// From the old inputs on: whether they give the old file, and then the new one.
-use super::RebuildAnswer;
+// The old side: from accepted old inputs to the old days ahead, whether they give the old file, and then the new side.
 use super::days::keep_days;
 use super::new::rebuild_new;
 use super::old::gives;
@@ -7,6 +6,7 @@ use build::inner::ahead::find_ahead;
 use build::inner::ahead::newmoon_days;
 use build::inner::ahead::solstice_days;
 use build::inner::ahead::zhongqi_days;
+use rebuilt::RebuildAnswer;
 use series::Body;
 use suis::inner::BeginAnswer;
 use suis::inner::Places;
@@ -21,19 +21,110 @@ ghost use Rattle.whole.specs.Ranges.{Within};
 ghost use Rattle.refusals.specs.Lent.{writtenInto};
 ghost use Rattle.inputs.specs.Inputs.{inputs};
 ghost use Rattle.inputs.specs.Known.{Known};
-ghost use Rattle.build.specs.theory.Walk.{Begins};
-ghost use Rattle.rebuild.specs.Rebuild.{paperRebuilt, counted, new-bytes, kept-years};
+ghost use Rattle.build.specs.theory.Walk.{Begins, Walks};
+ghost use Rattle.rebuilt.specs.Rebuild.{paperRebuilt, counted, new-bytes, kept-years};
 ghost use Rattle.rebuild.specs.theory.Over.{rebuiltOver};
 
-// Room for the days of 128 suis, 28 words each.
-fn day_words() -> [i64; 3584]
-    ensures { λ r. ⌜ 3584 ≡ length r ⌝ }
+// By the days ahead under the old inputs: 13 unless these give the old file.
+fn rebuild_found(
+    old: &[u8],
+    oldleap: &[i64],
+    oldsunstart: Second,
+    oldsun: &[i64],
+    oldmoonstart: Second,
+    oldmoon: &[i64],
+    leap: &[i64],
+    sunstart: Second,
+    sun: &[i64],
+    moonstart: Second,
+    moon: &[i64],
+    zone: i64,
+    oldsuns: TurnList,
+    oldmoons: TurnList,
+    oldplaces: Places,
+    first: i64,
+    n: usize,
+    oldsolstices: &[i64],
+    oldnewmoons: &[i64],
+    oldzhongqi: &[i64],
+    file: &mut [u8],
+    years: &mut [i64],
+) -> RebuildAnswer
+    requires { ⌜ Walks (inputs (now oldleap) (oldsunstart .0) (now oldsun) (oldmoonstart .0) (now oldmoon)) zone oldsuns oldmoons oldplaces first n (now oldsolstices) (now oldnewmoons) (now oldzhongqi) ⌝ }
+    ensures { λ r. ⌜ paperRebuilt r ≡ counted (rebuiltOver (inputs (now (oldleap .entry)) (oldsunstart .0) (now (oldsun .entry)) (oldmoonstart .0) (now (oldmoon .entry))) (inputs (now (leap .entry)) (sunstart .0) (now (sun .entry)) (moonstart .0) (now (moon .entry))) zone (now (old .entry)) first n (length (now (file .entry))) (length (now (years .entry)))) ⌝ }
+    ensures { λ r. ⌜ now (file .exit) ≡ writtenInto (rebuiltOver (inputs (now (oldleap .entry)) (oldsunstart .0) (now (oldsun .entry)) (oldmoonstart .0) (now (oldmoon .entry))) (inputs (now (leap .entry)) (sunstart .0) (now (sun .entry)) (moonstart .0) (now (moon .entry))) zone (now (old .entry)) first n (length (now (file .entry))) (length (now (years .entry)))) new-bytes (now (file .entry)) ⌝ }
+    ensures { λ r. ⌜ now (years .exit) ≡ writtenInto (rebuiltOver (inputs (now (oldleap .entry)) (oldsunstart .0) (now (oldsun .entry)) (oldmoonstart .0) (now (oldmoon .entry))) (inputs (now (leap .entry)) (sunstart .0) (now (sun .entry)) (moonstart .0) (now (moon .entry))) zone (now (old .entry)) first n (length (now (file .entry))) (length (now (years .entry)))) kept-years (now (years .entry)) ⌝ }
 {
-    [0; 3584]
+    if !gives(
+        oldleap,
+        oldsunstart,
+        oldsun,
+        oldmoonstart,
+        oldmoon,
+        zone,
+        oldsuns,
+        oldmoons,
+        oldplaces,
+        first,
+        n,
+        oldsolstices,
+        oldnewmoons,
+        oldzhongqi,
+        old,
+    ) {
+        return RebuildAnswer::Refused(refusals::LAYOUT);
+    }
+    // The days of 128 suis, 28 words each, stored word by word where they stand (`build::inner::ahead::build_from` says why).
+    let mut before: [i64; 3584] = [first; 3584];
+    keep_days(
+        oldleap,
+        oldsunstart,
+        oldsun,
+        oldmoonstart,
+        oldmoon,
+        zone,
+        oldsuns,
+        oldmoons,
+        oldplaces,
+        first,
+        n,
+        oldsolstices,
+        oldnewmoons,
+        oldzhongqi,
+        &mut before,
+    );
+    // where the old file's months stand: behind three counts, the leap entries and the suis
+    let at = 12 + 8 * (oldleap.len() / 2) + 5 * n;
+    rebuild_new(
+        oldleap,
+        oldsunstart,
+        oldsun,
+        oldmoonstart,
+        oldmoon,
+        leap,
+        sunstart,
+        sun,
+        moonstart,
+        moon,
+        zone,
+        oldsuns,
+        oldmoons,
+        oldplaces,
+        first,
+        n,
+        oldsolstices,
+        oldnewmoons,
+        oldzhongqi,
+        &before,
+        old,
+        at,
+        file,
+        years,
+    )
 }
 
-// By where the first old sui begins; 13 unless the old inputs give the old file.
-fn rebuild_old(
+// By where the first old sui begins.
+fn rebuild_begun(
     old: &[u8],
     oldleap: &[i64],
     oldsunstart: Second,
@@ -78,46 +169,8 @@ fn rebuild_old(
         &mut newmoons,
         &mut zhongqi,
     );
-    if !gives(
-        oldleap,
-        oldsunstart,
-        oldsun,
-        oldmoonstart,
-        oldmoon,
-        zone,
-        oldsuns,
-        oldmoons,
-        oldplaces,
-        first,
-        n,
-        &solstices[..found.solstices],
-        &newmoons[..found.newmoons],
-        &zhongqi,
+    rebuild_found(
         old,
-    ) {
-        return RebuildAnswer::Refused(refusals::LAYOUT);
-    }
-    let mut before = day_words();
-    keep_days(
-        oldleap,
-        oldsunstart,
-        oldsun,
-        oldmoonstart,
-        oldmoon,
-        zone,
-        oldsuns,
-        oldmoons,
-        oldplaces,
-        first,
-        n,
-        &solstices[..found.solstices],
-        &newmoons[..found.newmoons],
-        &zhongqi,
-        &mut before,
-    );
-    // where the old file's months stand: behind three counts, the leap entries and the suis
-    let at = 12 + 8 * (oldleap.len() / 2) + 5 * n;
-    rebuild_new(
         oldleap,
         oldsunstart,
         oldsun,
@@ -137,16 +190,13 @@ fn rebuild_old(
         &solstices[..found.solstices],
         &newmoons[..found.newmoons],
         &zhongqi,
-        &before,
-        old,
-        at,
         file,
         years,
     )
 }
 
 // By accepted old inputs and the old file's years.
-pub fn rebuild_known(
+pub fn rebuild_accepted(
     old: &[u8],
     oldleap: &[i64],
     oldsunstart: Second,
@@ -187,7 +237,7 @@ pub fn rebuild_known(
     );
     match begun {
         BeginAnswer::Refused(_) => RebuildAnswer::Refused(refusals::LAYOUT),
-        BeginAnswer::Begin(oldplaces) => rebuild_old(
+        BeginAnswer::Begin(oldplaces) => rebuild_begun(
             old,
             oldleap,
             oldsunstart,

@@ -1,14 +1,14 @@
 // The rebuild: the suis of an old almanac file from corrected inputs, and the years of those that the correction leaves as they were (document 02, order 1).
 use old::FileYearsAnswer;
+use rebuilt::RebuildAnswer;
 use refusals::Check;
-use refusals::Refusal;
 use times::Second;
 ghost use mathlib.Core.Path.{_≡_};
 ghost use lib.ListN.{length};
 ghost use Rattle.refusals.specs.Lent.{writtenInto};
 ghost use Rattle.clock.specs.Clock.{utc8};
 ghost use Rattle.inputs.specs.Inputs.{inputs};
-ghost use Rattle.rebuild.specs.Rebuild.{rebuilt, paperRebuilt, counted, new-bytes, kept-years};
+ghost use Rattle.rebuilt.specs.Rebuild.{rebuilt, paperRebuilt, counted, new-bytes, kept-years};
 
 mod days;
 mod known;
@@ -17,17 +17,6 @@ mod old;
 mod walk;
 mod writing;
 mod years;
-
-// How many bytes the new file has, and how many years were listed.
-pub struct Rebuilt {
-    pub bytes: usize,
-    pub years: usize,
-}
-
-pub enum RebuildAnswer {
-    Rebuilt(Rebuilt),
-    Refused(Refusal),
-}
 
 // Rebuilds the file of the old file's years from new inputs, by UTC+8 days, and lists the years of the suis whose days they leave as they were: 13 unless the old
 // inputs give the old file, then as a build of the new inputs refuses, then 12 where bytes or years have no room. Refused, nothing is written.
@@ -58,7 +47,7 @@ pub fn rebuild(
             if let Check::Refused(_) = check {
                 return RebuildAnswer::Refused(refusals::LAYOUT);
             }
-            known::rebuild_known(
+            known::rebuild_accepted(
                 old,
                 oldleap,
                 oldsunstart,

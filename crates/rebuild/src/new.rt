@@ -1,5 +1,4 @@
 // The new side: the new inputs are judged by what changed, their days ahead are found where they can have moved, and the file is written.
-use super::RebuildAnswer;
 use super::writing::rebuild_from;
 use build::inner::ahead::newmoon_days;
 use build::inner::ahead::solstice_days;
@@ -8,6 +7,7 @@ use corrected::inner::Changed;
 use corrected::inner::changed_segments;
 use corrected::inner::judge_again;
 use found_again::inner::find_again;
+use rebuilt::RebuildAnswer;
 use refusals::Check;
 use series::Body;
 use suis::inner::BeginAnswer;
@@ -23,7 +23,7 @@ ghost use Rattle.inputs.specs.Inputs.{inputs};
 ghost use Rattle.corrected.specs.Shared.{Shared};
 ghost use Rattle.build.specs.Build.{bytesOfYears};
 ghost use Rattle.build.specs.theory.Walk.{Begins, Walks};
-ghost use Rattle.rebuild.specs.Rebuild.{newFileBy, paperRebuilt, counted, new-bytes, kept-years};
+ghost use Rattle.rebuilt.specs.Rebuild.{newFileBy, paperRebuilt, counted, new-bytes, kept-years};
 ghost use Rattle.rebuild.specs.theory.Again.{listedAgain, Copies};
 ghost use Rattle.rebuild.specs.theory.Over.{freshBytes};
 

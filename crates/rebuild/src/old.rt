@@ -16,7 +16,7 @@ ghost use Rattle.inputs.specs.Inputs.{inputs};
 ghost use Rattle.almanac.specs.Layout.{fileOf};
 ghost use Rattle.build.specs.Build.{bytesOfYears};
 ghost use Rattle.build.specs.theory.Walk.{Walks};
-ghost use Rattle.rebuild.specs.Rebuild.{isFile, mostBytes, yearsIn};
+ghost use Rattle.rebuilt.specs.Rebuild.{isFile, mostBytes, yearsIn};
 ghost use Rattle.rebuild.specs.theory.Judging.{paperYears};
 
 // The first year of a file, and how many years it has.

@@ -1,11 +1,11 @@
 // The new file and the years, by the days ahead: everything is judged before the first byte or year is written.
-use super::RebuildAnswer;
-use super::Rebuilt;
 use super::days::put_words;
 use super::walk::put_years_again;
 use super::years::AgainAnswer;
 use almanac::WriteAnswer;
 use almanac::inner::write_lawful;
+use rebuilt::RebuildAnswer;
+use rebuilt::Rebuilt;
 use suis::inner::Places;
 use times::Second;
 use turns::inner::TurnList;
@@ -15,7 +15,7 @@ ghost use Rattle.refusals.specs.Lent.{writtenInto};
 ghost use Rattle.inputs.specs.Inputs.{inputs};
 ghost use Rattle.build.specs.Build.{bytesOfYears};
 ghost use Rattle.build.specs.theory.Walk.{Walks};
-ghost use Rattle.rebuild.specs.Rebuild.{newFileBy, paperRebuilt, counted, new-bytes, kept-years};
+ghost use Rattle.rebuilt.specs.Rebuild.{newFileBy, paperRebuilt, counted, new-bytes, kept-years};
 ghost use Rattle.rebuild.specs.theory.Again.{listedAgain, Copies};
 
 // Room for the records of 128 suis, two words each, and for their years.

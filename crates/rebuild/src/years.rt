@@ -26,7 +26,7 @@ ghost use Rattle.months.specs.declared.SuiDays.{SuiDays};
 ghost use Rattle.months.specs.Months.{suiOf, twelveOrThirteen};
 ghost use Rattle.sui.specs.Sui.{suiDays};
 ghost use Rattle.suis.specs.Ahead.{YearAhead};
-ghost use Rattle.rebuild.specs.Rebuild.{daysWords};
+ghost use Rattle.rebuilt.specs.Rebuild.{daysWords};
 ghost use Rattle.rebuild.specs.theory.Again.{paperPut, paperAgain, againCount, againMonths, putAnswered, monthsAtPlace, yearCount, yearMonths, yearListed, yearAgain};
 
 // How many months were put.

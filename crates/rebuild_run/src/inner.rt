@@ -3,7 +3,7 @@ use almanac::WriteAnswer;
 use build_run::inner::file_room;
 use build_run::inner::print_refusal;
 use build_run::inner::print_series;
-use rebuild::RebuildAnswer;
+use rebuilt::RebuildAnswer;
 use refusals::Refusal;
 ghost use mathlib.Core.Path.{_≡_};
 ghost use lib.ListN.{length};

@@ -15,7 +15,7 @@ use Rattle.inputs.specs.Inputs.{Inputs}
 use Rattle.layout.specs.Layout.{sectionEnd, places}
 use Rattle.building.specs.Building.{lengthKept, allTaken}
 use Rattle.almanac.specs.Layout.{countsOf, contentOf, fileOf}
-use Rattle.rebuild.specs.Rebuild.{givenBy, rebuiltBy}
+use Rattle.rebuilt.specs.Rebuild.{givenBy, rebuiltBy}
 use Rattle.rebuilding.specs.Rebuilding.{inputsOfWords, inputsOf, inputsTaken, rebuiltFrom, rebuiltFromTaken}
 
 -- these inputs are found

@@ -6,9 +6,9 @@ use lib.IntN.{ℤ}
 use lib.ListN.{length}
 use Rattle.refusals.specs.Verdict.{one-result, one-content}
 use Rattle.refusals.specs.Lent.{writtenInto}
-use Rattle.rebuild.specs.declared.RebuildAnswer.{RebuildAnswer}
-use Rattle.rebuild.specs.Rebuild.{paperRebuilt, counted, new-bytes, kept-years}
-use Rattle.rebuild.specs.Theorems.{rebuilt-apart}
+use Rattle.rebuilt.specs.declared.RebuildAnswer.{RebuildAnswer}
+use Rattle.rebuilt.specs.Rebuild.{paperRebuilt, counted, new-bytes, kept-years}
+use Rattle.rebuilt.specs.Theorems.{rebuilt-apart}
 use Rattle.rebuilding.specs.Rebuilding.{rebuiltFromTaken}
 
 module _ (old : List ℕ) (oldws : List ℤ) (oldbytes : ℕ) (ws : List ℤ) (bytes : ℕ) (file : List ℕ) (years : List ℤ) where

@@ -13,7 +13,7 @@ use Rattle.clock.specs.Clock.{utc8}
 use Rattle.inputs.specs.Inputs.{Inputs}
 use Rattle.layout.specs.Layout.{places, inputsAt}
 use Rattle.building.specs.Building.{lengthKept, allTaken}
-use Rattle.rebuild.specs.Rebuild.{NewFile, rebuilt}
+use Rattle.rebuilt.specs.Rebuild.{NewFile, rebuilt}
 
 -- ---- leap table, Sun and Moon of an input
 unfoldable pub inputsOfWords : List ℤ → Verdict Inputs

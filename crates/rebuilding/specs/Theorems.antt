@@ -16,8 +16,8 @@ use Rattle.layout.specs.declared.inner.Places.{Places}
 use Rattle.layout.specs.Layout.{places, inputsAt}
 use Rattle.build.specs.Build.{bytesBuilt}
 use Rattle.building.specs.Building.{builtFromRest, builtFromWords, lengthKept, builtFrom}
-use Rattle.rebuild.specs.Rebuild.{NewFile}
-use Rattle.rebuild.specs.Theorems.{Fresh, rebuilt-is-fresh}
+use Rattle.rebuilt.specs.Rebuild.{NewFile}
+use Rattle.rebuilt.specs.Theorems.{Fresh, rebuilt-is-fresh}
 use Rattle.rebuilding.specs.Rebuilding.{inputsOfWords, inputsOf, rebuiltFrom}
 
 words-taken : (ws : List ℤ) (room : ℕ) → builtFromWords ws room ≡ (inputsOfWords ws then λ i. bytesBuilt i utc8 (getD ws 0 (pos 0)) (getD ws 1 (pos 0)) room)

@@ -1,11 +1,11 @@
 // The rebuild from inputs of bytes: an old almanac file, the input that it was built from, and a new one. The bytes of an input come in pieces, of which the words are
 // kept (`pieces`).
 use layout::inner::PlacesAnswer;
-use rebuild::RebuildAnswer;
+use rebuilt::RebuildAnswer;
 ghost use mathlib.Core.Path.{_≡_};
 ghost use lib.ListN.{length};
 ghost use Rattle.refusals.specs.Lent.{writtenInto};
-ghost use Rattle.rebuild.specs.Rebuild.{paperRebuilt, counted, new-bytes, kept-years};
+ghost use Rattle.rebuilt.specs.Rebuild.{paperRebuilt, counted, new-bytes, kept-years};
 ghost use Rattle.rebuilding.specs.Rebuilding.{rebuiltFromTaken};
 
 mod sections;

@@ -3,7 +3,7 @@ use building::inner::all_taken;
 use layout::inner::Places;
 use layout::inner::PlacesAnswer;
 use layout::inner::find_places;
-use rebuild::RebuildAnswer;
+use rebuilt::RebuildAnswer;
 use times::Second;
 ghost use mathlib.Core.Path.{_≡_};
 ghost use Prim.Native.Nat.{_≤_};
@@ -11,7 +11,7 @@ ghost use lib.ListN.{length};
 ghost use Rattle.refusals.specs.Lent.{writtenInto};
 ghost use Rattle.clock.specs.Clock.{utc8};
 ghost use Rattle.layout.specs.Layout.{paperPlaces, inputsAt};
-ghost use Rattle.rebuild.specs.Rebuild.{rebuilt, paperRebuilt, counted, new-bytes, kept-years};
+ghost use Rattle.rebuilt.specs.Rebuild.{rebuilt, paperRebuilt, counted, new-bytes, kept-years};
 ghost use Rattle.rebuilding.specs.theory.Cases.{placesTaken, Sections};
 
 // Where they stand behind first Y and count; 13 where the input breaks its layout.

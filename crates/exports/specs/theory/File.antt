@@ -21,9 +21,9 @@ use Rattle.almanac.specs.theory.Reader.{checked}
 use Rattle.build.specs.Build.{suisBy, contentBy, bytesBy, builtBy, contentBuilt, bytesOfYears, bytesBuilt, fileBuilt}
 use Rattle.sui.specs.Sui.{suiOfYear}
 use Rattle.sui.specs.theory.Answered.{inputs-answered}
-use Rattle.rebuild.specs.declared.Rebuilt.{Rebuilt}
-use Rattle.rebuild.specs.Rebuild.{NewFile, yearsIn, isFile, mostBytes, givenBy, newFileBy, rebuiltBy, keptBy, kept, rebuilt, counted}
-use Rattle.rebuild.specs.Theorems.{rebuilt-is-fresh, given-means, most-bytes-are-enough}
+use Rattle.rebuilt.specs.declared.Rebuilt.{Rebuilt}
+use Rattle.rebuilt.specs.Rebuild.{NewFile, yearsIn, isFile, mostBytes, givenBy, newFileBy, rebuiltBy, keptBy, kept, rebuilt, counted}
+use Rattle.rebuilt.specs.Theorems.{rebuilt-is-fresh, given-means, most-bytes-are-enough}
 use Rattle.rebuild.specs.theory.Judging.{years-few}
 use Rattle.exports.specs.Fits.{Fits, none, itself, fileSize, rebuiltSize, answer, test, _and_, and-then, with-answer}
 use Rattle.exports.specs.theory.Sky.{inputs-fit}

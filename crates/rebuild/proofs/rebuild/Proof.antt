@@ -13,7 +13,7 @@ use Rattle.inputs.specs.Theorems.{known}
 use Rattle.almanac.specs.Layout.{fileOf}
 use Rattle.rebuild.specs.declared.old.FileYears.{FileYears}
 use Rattle.rebuild.specs.declared.old.FileYearsAnswer.the-variants.{Years as YearsAnswer}
-use Rattle.rebuild.specs.Rebuild.{Years, rebuilt, yearsIn}
+use Rattle.rebuilt.specs.Rebuild.{Years, rebuilt, yearsIn}
 use Rattle.rebuild.specs.theory.Judging.{paperYears, years-few}
 use Rattle.rebuild.specs.theory.Over.{says-refused, same-says}
 use Rattle.rebuild.specs.theory.Entry.{not-read, old-not-accepted, old-accepted}
@@ -23,11 +23,11 @@ use Rattle.rebuild.proofs.rebuild.Tie as tie
 use Rattle.rebuild.proofs.rebuild.Reads as reads
 use Rattle.rebuild.proofs.rebuild.Lts as lts
 use Rattle.inputs.proofs.judge.Reads as judge-reads
-use Rattle.rebuild.proofs.known.rebuild_known.Reads as rebuild-known-reads
+use Rattle.rebuild.proofs.known.rebuild_accepted.Reads as rebuild-accepted-reads
 use Rattle.rebuild.proofs.old.years_in.Reads as years-in-reads
 
 abbrev called : lts.Claims
-called = (years-in-reads.Asked, years-in-reads.Learnt, judge-reads.Asked, judge-reads.Learnt, rebuild-known-reads.Asked, rebuild-known-reads.Learnt)
+called = (years-in-reads.Asked, years-in-reads.Learnt, judge-reads.Asked, judge-reads.Learnt, rebuild-accepted-reads.Asked, rebuild-accepted-reads.Learnt)
 
 abbrev Start : Type 0
 Start = lts.Start called reads.Pre reads.Post
@@ -75,8 +75,8 @@ returns c =
 enum-told-2 : tie.Need-enum-told-2
 enum-told-2 c = search needs
 
-rebuild-known-requires : tie.Need-rebuild-known-requires
-rebuild-known-requires c κs =
+rebuild-accepted-requires : tie.Need-rebuild-accepted-requires
+rebuild-accepted-requires c κs =
     let judge = c .before .before .before .before .before in
     let read = c .before .before .before .before .before .before .before .before .before in
     let start = c .before .before .before .before .before .before .before .before .before .before .before .before in
@@ -108,7 +108,7 @@ returns-3 c =
     let few = years-few (a .old .now) (sym (at-years read span)) in
     let f = fits-of (made .before .before .before .before .before .before .before .before .span2 .given .0 .0 .first) (made .before .struct-told .given .0 .1) in
     same-says (old-accepted (old-of start) (new-of start) utc8 (a .old .now) (length (a .file .now)) (length (a .years .now)) (at-years read span) (accepted-is (judge .judge .ensures) (made .before .before .before .before .enum-told2 .given .1)) (few .0) (few .1)) (a .file .now) (a .years .now)
-    (rw (toZ-ofZ f) at (made .rebuild-known .ensures))
+    (rw (toZ-ofZ f) at (made .rebuild-accepted .ensures))
 
 pub rebuild-spec : {M : Type 1} → statement M
 rebuild-spec =
@@ -121,7 +121,7 @@ rebuild-spec =
     enum-told
     returns
     enum-told-2
-    rebuild-known-requires
+    rebuild-accepted-requires
     returns-2
     same-length
     same-length-2

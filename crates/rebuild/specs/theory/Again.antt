@@ -22,7 +22,7 @@ use Rattle.rebuild.specs.declared.years.PutAnswer.the-variants as put-an
 use Rattle.rebuild.specs.declared.years.Again.{Again}
 use Rattle.rebuild.specs.declared.years.AgainAnswer.{AgainAnswer}
 use Rattle.rebuild.specs.declared.years.AgainAnswer.the-variants as again-answer
-use Rattle.rebuild.specs.Rebuild.{daysWords}
+use Rattle.rebuilt.specs.Rebuild.{daysWords}
 
 abbrev pub paperPut : PutAnswer → Verdict ℕ
 paperPut (put-answer.Put count) = answered count

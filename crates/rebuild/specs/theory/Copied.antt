@@ -31,12 +31,12 @@ use Rattle.build.specs.Theorems.{built-is-lawful, one-sui-a-year}
 use Rattle.build.specs.theory.Put.{sui-months}
 use Rattle.build.specs.theory.Records.{suiAt, none-before, months-more, count-at}
 use Rattle.build.specs.theory.Years.{suis-are}
-use Rattle.rebuild.specs.Rebuild.{mostBytes, daysWords, sameDays, isKept, keptBy, kept}
+use Rattle.rebuilt.specs.Rebuild.{mostBytes, daysWords, sameDays, isKept, keptBy, kept}
 use Rattle.rebuild.specs.theory.Again.{isSameAs, monthsAtPlace, listedAgain, Copies}
 use Rattle.alike.specs.Alike.{words-are, words-alike}
-use Rattle.rebuild.specs.theory.Kept.{fourteen-moons, same-days}
+use Rattle.rebuilt.specs.theory.Kept.{fourteen-moons, same-days}
 use Rattle.rebuild.specs.theory.Old.{AllFound, DaysOf, daysOfYears, days-of, words-of, days-long, days-at}
-use Rattle.rebuild.specs.theory.Records.{words-in-turn, fewer-found, own-words, words-before}
+use Rattle.rebuilt.specs.theory.Records.{words-in-turn, fewer-found, own-words, words-before}
 
 -- ---- a file that accepted inputs gave: its suis, and that the reader reads them
 pub record OldFile (i : Inputs) (zone first : ℤ) (n : ℕ) (file : List ℕ) : Type 0 where

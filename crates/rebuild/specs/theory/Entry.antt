@@ -12,7 +12,7 @@ use Rattle.inputs.specs.Inputs.{Inputs, inputsJudged}
 use Rattle.content.specs.Content.{Content}
 use Rattle.almanac.specs.Layout.{fileOf}
 use Rattle.build.specs.Build.{bytesOfYears, bytesBuilt, builtBy}
-use Rattle.rebuild.specs.Rebuild.{Years, NewFile, isFile, mostBytes, newFileBy, keptBy, kept, given, givenBy, rebuilt, rebuiltBy, yearsIn}
+use Rattle.rebuilt.specs.Rebuild.{Years, NewFile, isFile, mostBytes, newFileBy, keptBy, kept, given, givenBy, rebuilt, rebuiltBy, yearsIn}
 use Rattle.rebuild.specs.theory.Over.{freshBytes, rebuiltOver}
 
 -- ---- a build of 1 to 128 years, behind the judgement of its inputs

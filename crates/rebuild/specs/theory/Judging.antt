@@ -23,7 +23,7 @@ use Rattle.almanac.specs.theory.Records.{sui-stands}
 use Rattle.almanac.specs.theory.Rules.{rules, some-sui, few-suis}
 use Rattle.rebuild.specs.declared.old.FileYearsAnswer.{FileYearsAnswer}
 use Rattle.rebuild.specs.declared.old.FileYearsAnswer.the-variants as file-years
-use Rattle.rebuild.specs.Rebuild.{Years, yearsIn, isFile}
+use Rattle.rebuilt.specs.Rebuild.{Years, yearsIn, isFile}
 
 -- ---- a build into lent room
 module _ (v : Verdict (List ℕ)) where

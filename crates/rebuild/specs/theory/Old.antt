@@ -31,7 +31,7 @@ use Rattle.suis.specs.theory.Next.{next-year}
 use Rattle.build.specs.Build.{suisFrom}
 use Rattle.build.specs.theory.Years.{suis-are}
 use Rattle.build.specs.theory.Walk.{Walks, Reached}
-use Rattle.rebuild.specs.Rebuild.{daysWords}
+use Rattle.rebuilt.specs.Rebuild.{daysWords}
 
 pub record AllFound (i : Inputs) (zone first : ℤ) (n : ℕ) : Type 0 where
   pub suis : List Sui

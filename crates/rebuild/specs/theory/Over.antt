@@ -17,8 +17,8 @@ use Rattle.almanac.specs.Layout.{fileOf}
 use Rattle.content.specs.Content.{Content}
 use Rattle.build.specs.Build.{bytesOfYears, bytesBuilt, builtBy, bytesBy, contentBy, suisBy}
 use Rattle.build.specs.theory.Years.{suis-refused}
-use Rattle.rebuild.specs.declared.Rebuilt.{Rebuilt}
-use Rattle.rebuild.specs.Rebuild.{Years, NewFile, isFile, mostBytes, newFileBy, keptBy, kept, rebuilt, rebuiltBy, givenBy, yearsIn, counted, new-bytes, kept-years}
+use Rattle.rebuilt.specs.declared.Rebuilt.{Rebuilt}
+use Rattle.rebuilt.specs.Rebuild.{Years, NewFile, isFile, mostBytes, newFileBy, keptBy, kept, rebuilt, rebuiltBy, givenBy, yearsIn, counted, new-bytes, kept-years}
 
 -- the fresh build of n years, 1 to 128 of them, behind the judgement of its inputs
 abbrev pub freshBytes : Inputs → ℤ → ℤ → ℕ → ℕ → Verdict (List ℕ)

@@ -16,7 +16,7 @@ use Rattle.months.specs.declared.SuiDays.{SuiDays}
 use Rattle.months.specs.Months.{suiOf}
 use Rattle.build.specs.theory.Put.{yearWords, sui-months}
 use Rattle.rebuild.specs.declared.years.Again.{Again}
-use Rattle.rebuild.specs.Rebuild.{daysWords}
+use Rattle.rebuilt.specs.Rebuild.{daysWords}
 use Rattle.rebuild.specs.theory.Again.{againCount, againMonths, putAnswered, monthsAtPlace, yearCount, yearMonths, yearListed, yearAgain}
 
 -- a part of a list whose front is replaced, put back, is that front placed in the list

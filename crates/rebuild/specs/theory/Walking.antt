@@ -22,7 +22,7 @@ use Rattle.build.specs.Build.{suisFrom, suiWords, monthWords}
 use Rattle.build.specs.theory.Put.{monthsOf, yearWords, sui-months}
 use Rattle.build.specs.theory.Walk.{Walks, Walked}
 use Rattle.rebuild.specs.declared.years.Again.{Again}
-use Rattle.rebuild.specs.Rebuild.{daysWords}
+use Rattle.rebuilt.specs.Rebuild.{daysWords}
 use Rattle.rebuild.specs.theory.Again.{againCount, againMonths, monthsAtPlace, yearCount, yearMonths, yearListed, isSameAs, yearAgain, listedAgain, yearsAgain, Copies}
 
 -- ---- one year

@@ -16,8 +16,8 @@ use Rattle.content.specs.Content.{Content, content}
 use Rattle.almanac.specs.Layout.{bytesOf}
 use Rattle.almanac.specs.Answers.{bytesInto, bytesCounted, all-bytes}
 use Rattle.build.specs.Build.{suisFrom, suiWords, monthWords, bytesOfYears, bytesBy, contentBy}
-use Rattle.rebuild.specs.declared.Rebuilt.{Rebuilt}
-use Rattle.rebuild.specs.Rebuild.{NewFile, newFileBy, counted, new-bytes, kept-years}
+use Rattle.rebuilt.specs.declared.Rebuilt.{Rebuilt}
+use Rattle.rebuilt.specs.Rebuild.{NewFile, newFileBy, counted, new-bytes, kept-years}
 
 -- ---- what the fresh build gives, by the suis that were found
 pub fresh-refused : (i : Inputs) (zone first : ℤ) (n room : ℕ) {number segment : ℕ} → suisFrom i zone first n ≡ refused number segment → bytesOfYears i zone first n room ≡ refused number segment

@@ -19,8 +19,8 @@ use Rattle.layout.specs.Layout.{places, wordsFrom, inputsAt}
 use Rattle.layout.specs.theory.Sections.{places-inside}
 use Rattle.building.specs.Building.{allTaken}
 use Rattle.building.specs.theory.Cases.{bounded}
-use Rattle.rebuild.specs.declared.Rebuilt.{Rebuilt}
-use Rattle.rebuild.specs.Rebuild.{NewFile, rebuilt, counted, new-bytes, kept-years}
+use Rattle.rebuilt.specs.declared.Rebuilt.{Rebuilt}
+use Rattle.rebuilt.specs.Rebuild.{NewFile, rebuilt, counted, new-bytes, kept-years}
 use Rattle.rebuilding.specs.Rebuilding.{inputsOfWords, inputsTaken, rebuiltFromTaken}
 
 -- sections stand at these places of words, one behind the other, and the words are no more than an input may have

@@ -8,7 +8,7 @@ use Rattle.refusals.specs.Verdict.{Verdict}
 use Rattle.refusals.specs.Lent.{writtenInto}
 use Rattle.clock.specs.Clock.{utc8}
 use Rattle.inputs.specs.Inputs.{Inputs, inputs}
-use Rattle.rebuild.specs.Rebuild.{NewFile, rebuilt, paperRebuilt, counted, new-bytes, kept-years}
+use Rattle.rebuilt.specs.Rebuild.{NewFile, rebuilt, paperRebuilt, counted, new-bytes, kept-years}
 use Rattle.exports.specs.theory.File.{rebuild-fits}
 use Rattle.exports.specs.Record.{rebuiltNumbers}
 use Rattle.exports.proofs.Told.{told}

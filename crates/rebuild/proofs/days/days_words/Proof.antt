@@ -8,7 +8,7 @@ use mir.Syntax.{w64}
 use mir.Val.{ofZ, toZ}
 use Rattle.whole.specs.Lists.{placed}
 use Rattle.whole.specs.Ranges.{back}
-use Rattle.rebuild.specs.Rebuild.{daysWords}
+use Rattle.rebuilt.specs.Rebuild.{daysWords}
 use Rattle.rebuild.specs.theory.Old.{three-parts}
 use borrow.Author.Needs.{needs}
 use Rattle.rebuild.proofs.days.days_words.Statement.{statement}

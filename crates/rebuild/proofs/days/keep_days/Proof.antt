@@ -22,7 +22,7 @@ use Rattle.turns.specs.Listed.{turns-few}
 use Rattle.sui.specs.Sui.{suiDays}
 use Rattle.suis.specs.Ahead.{YearAhead}
 use Rattle.build.specs.theory.Walk.{Walks, Reached, reach-starts, reach-goes-on, year-ahead, solstices-reach, moons-reach}
-use Rattle.rebuild.specs.Rebuild.{daysWords}
+use Rattle.rebuilt.specs.Rebuild.{daysWords}
 use Rattle.rebuild.specs.theory.Old.{AtOld, DaysOf, daysOfYears, days-of, days-long, moons-long, zhongqi-long, words-long, nothing-put, year-put}
 use Rattle.rebuild.proofs.days.keep_days.Statement.{statement}
 use Rattle.rebuild.proofs.days.keep_days.Tie as tie

@@ -13,7 +13,7 @@ use Rattle.suis.specs.Ahead.{paperBegin, begun}
 use Rattle.suis.specs.theory.Begun.{begun-answered, begun-refused}
 use Rattle.build.specs.Build.{bytesOfYears}
 use Rattle.build.specs.theory.Walk.{Begins}
-use Rattle.rebuild.specs.Rebuild.{newFileBy}
+use Rattle.rebuilt.specs.Rebuild.{newFileBy}
 use Rattle.rebuild.specs.theory.Again.{listedAgain}
 use Rattle.rebuild.specs.theory.Over.{freshBytes, says-refused, same-says, new-refused, new-accepted, not-built-new, first-refused}
 use borrow.Author.Needs.{needs}

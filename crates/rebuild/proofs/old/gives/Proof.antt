@@ -11,7 +11,7 @@ use Rattle.refusals.specs.Verdict.{Verdict}
 use Rattle.inputs.specs.Inputs.{Inputs, inputs}
 use Rattle.almanac.specs.Answers.{paperWritten}
 use Rattle.build.specs.Build.{bytesOfYears}
-use Rattle.rebuild.specs.Rebuild.{mostBytes, isFile}
+use Rattle.rebuilt.specs.Rebuild.{mostBytes, isFile}
 use Rattle.rebuild.specs.theory.Judging.{not-its-file, wrote, its-file}
 use Rattle.rebuild.proofs.old.gives.Statement.{statement}
 use Rattle.rebuild.proofs.old.gives.Tie as tie

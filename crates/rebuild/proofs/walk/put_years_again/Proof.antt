@@ -34,7 +34,7 @@ use Rattle.build.specs.theory.Put.{monthsOf, sui-months}
 use Rattle.build.specs.theory.Walk.{walk-starts, walk-goes-on, walk-ends, walk-stops, year-ahead, solstices-reach, moons-reach, sui-room, month-room}
 use Rattle.rebuild.specs.declared.years.Again.{Again as AgainRecord}
 use Rattle.rebuild.specs.declared.years.AgainAnswer.the-variants.{Again, Refused}
-use Rattle.rebuild.specs.Rebuild.{daysWords}
+use Rattle.rebuilt.specs.Rebuild.{daysWords}
 use Rattle.rebuild.specs.theory.Again.{paperAgain, yearAgain, yearCount, yearMonths, yearListed, listedAgain, Copies}
 use Rattle.rebuild.specs.theory.Walking.{Kept as Kept-by, AtAgain, fresh-count, fresh-months, again-refused, again-answered, listed-few, none-listed, year-listed, more-listed, none-counted, years-stop, years-end}
 use Rattle.rebuild.proofs.walk.put_years_again.Statement.{statement}

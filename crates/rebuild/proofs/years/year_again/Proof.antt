@@ -17,7 +17,7 @@ use Rattle.months.specs.theory.Days.{found-twelve, found-small}
 use Rattle.months.specs.theory.Listed.{at-most-thirteen}
 use Rattle.sui.specs.Sui.{newMoonDays, zhongqiDays, suiDays}
 use Rattle.sui.specs.theory.Answered.{Found, days-found, new-moons-small}
-use Rattle.rebuild.specs.Rebuild.{daysWords}
+use Rattle.rebuilt.specs.Rebuild.{daysWords}
 use Rattle.rebuild.specs.theory.Again.{paperPut, againCount}
 use Rattle.rebuild.specs.theory.Putting.{no-days, no-sui, sui-put}
 use Rattle.rebuild.specs.theory.Old.{moons-long, zhongqi-long}

@@ -3,7 +3,7 @@ use mathlib.Core.Path.{_≡_, sym, ap, _∙_}
 use Prim.Native.Nat.{_≤_}
 use lib.ListN.{length}
 use lib.Seq.{length-take-le}
-use Rattle.rebuild.specs.Rebuild.{paperRebuilt}
+use Rattle.rebuilt.specs.Rebuild.{paperRebuilt}
 use Rattle.rebuilding.specs.Rebuilding.{rebuiltFromTaken}
 use Rattle.rebuilding.specs.theory.Cases.{new-inside}
 use borrow.Author.Needs.{needs}

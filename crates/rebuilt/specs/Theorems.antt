@@ -30,13 +30,13 @@ use Rattle.build.specs.Theorems.{built-is-read}
 use Rattle.build.specs.theory.Records.{suiAt}
 use Rattle.build.specs.theory.Words.{month-words-snoc}
 use Rattle.build.specs.theory.Years.{suis-are}
-use Rattle.rebuild.specs.declared.RebuildAnswer.{RebuildAnswer}
-use Rattle.rebuild.specs.declared.RebuildAnswer.the-variants as rebuild-answer
-use Rattle.rebuild.specs.Rebuild.{Years, NewFile, newFileBy, rebuiltBy, mostBytes, given, keptBy, kept, rebuilt, paperRebuilt, counted, new-bytes, kept-years}
-use Rattle.rebuild.specs.theory.Given.{Given, given-tells, given-when, not-given, built-is-given, count-built, room-enough}
-use Rattle.rebuild.specs.theory.Kept.{fourteen-moons, same-days, both-found, kept-when}
-use Rattle.rebuild.specs.theory.Listed.{StandsIn, KeptYear, years-of}
-use Rattle.rebuild.specs.theory.Records.{words-in-turn, fewer-found, own-words, words-before}
+use Rattle.rebuilt.specs.declared.RebuildAnswer.{RebuildAnswer}
+use Rattle.rebuilt.specs.declared.RebuildAnswer.the-variants as rebuild-answer
+use Rattle.rebuilt.specs.Rebuild.{Years, NewFile, newFileBy, rebuiltBy, mostBytes, given, keptBy, kept, rebuilt, paperRebuilt, counted, new-bytes, kept-years}
+use Rattle.rebuilt.specs.theory.Given.{Given, given-tells, given-when, not-given, built-is-given, count-built, room-enough}
+use Rattle.rebuilt.specs.theory.Kept.{fourteen-moons, same-days, both-found, kept-when}
+use Rattle.rebuilt.specs.theory.Listed.{StandsIn, KeptYear, years-of}
+use Rattle.rebuilt.specs.theory.Records.{words-in-turn, fewer-found, own-words, words-before}
 
 -- ---- "a file of the same suis, equal byte for byte to a fresh build"
 pub record Fresh (old new : Inputs) (zone : ℤ) (file : List ℕ) (room : ℕ) (n : NewFile) : Type 0 where

@@ -1,4 +1,4 @@
--- `rebuild::known::rebuild_known` meets its contract. In the needs, `start` is the function's entry. Assumes nothing.
+-- `rebuild::known::rebuild_accepted` meets its contract. In the needs, `start` is the function's entry. Assumes nothing.
 use mathlib.Core.Path.{_≡_, sym, ap, _∙_}
 use lib.ListN.{length}
 use mir.Facts.{toZ-ofZ}
@@ -6,19 +6,19 @@ use Rattle.inputs.specs.Inputs.{Inputs, inputs, sun, moon}
 use Rattle.suis.specs.Ahead.{paperBegin, begun}
 use Rattle.suis.specs.theory.Begun.{begun-answered, begun-refused}
 use Rattle.build.specs.theory.Walk.{Begins}
-use Rattle.rebuild.specs.Rebuild.{mostBytes}
+use Rattle.rebuilt.specs.Rebuild.{mostBytes}
 use Rattle.rebuild.specs.theory.Over.{rebuiltOver, says-refused, old-refused, first-refused}
 use borrow.Author.Needs.{needs}
-use Rattle.rebuild.proofs.known.rebuild_known.Statement.{statement}
-use Rattle.rebuild.proofs.known.rebuild_known.Tie as tie
-use Rattle.rebuild.proofs.known.rebuild_known.Reads as reads
-use Rattle.rebuild.proofs.known.rebuild_known.Lts as lts
-use Rattle.rebuild.proofs.known.rebuild_old.Reads as rebuild-old-reads
+use Rattle.rebuild.proofs.known.rebuild_accepted.Statement.{statement}
+use Rattle.rebuild.proofs.known.rebuild_accepted.Tie as tie
+use Rattle.rebuild.proofs.known.rebuild_accepted.Reads as reads
+use Rattle.rebuild.proofs.known.rebuild_accepted.Lts as lts
+use Rattle.rebuild.proofs.known.rebuild_begun.Reads as rebuild-begun-reads
 use Rattle.suis.proofs.inner.begin.Reads as begin-reads
 use Rattle.turns.proofs.inner.turns_of.Reads as turns-of-reads
 
 abbrev called : lts.Claims
-called = (turns-of-reads.Asked, turns-of-reads.Learnt, begin-reads.Asked, begin-reads.Learnt, rebuild-old-reads.Asked, rebuild-old-reads.Learnt)
+called = (turns-of-reads.Asked, turns-of-reads.Learnt, begin-reads.Asked, begin-reads.Learnt, rebuild-begun-reads.Asked, rebuild-begun-reads.Learnt)
 
 abbrev Start : Type 0
 Start = lts.Start called reads.Pre reads.Post
@@ -51,8 +51,8 @@ enum-told c = search needs
 enum-known-begun : tie.Need-enum-known-begun
 enum-known-begun c = search needs
 
-rebuild-old-requires : tie.Need-rebuild-old-requires
-rebuild-old-requires c κs =
+rebuild-begun-requires : tie.Need-rebuild-begun-requires
+rebuild-begun-requires c κs =
     let begin = c .before .before .before .before .before in
     let start = begin .before .before .before .before .before in
     let a = start .args in
@@ -86,10 +86,10 @@ returns-2 : tie.Need-returns-2
 returns-2 c =
     let made = c .before .before .before in
     let start = made .before .before .before .before .before .before .before .before .before .before .before in
-    rw (toZ-ofZ (start .fits .zone), toZ-ofZ (start .fits .first)) at (made .rebuild-old .ensures)
+    rw (toZ-ofZ (start .fits .zone), toZ-ofZ (start .fits .first)) at (made .rebuild-begun .ensures)
 
-pub rebuild-known-spec : {M : Type 1} → statement M
-rebuild-known-spec =
+pub rebuild-accepted-spec : {M : Type 1} → statement M
+rebuild-accepted-spec =
     tie.close
     (tie.spec
     turns-of-requires
@@ -97,7 +97,7 @@ rebuild-known-spec =
     begin-requires
     enum-told
     enum-known-begun
-    rebuild-old-requires
+    rebuild-begun-requires
     returns
     same-length
     same-length-2

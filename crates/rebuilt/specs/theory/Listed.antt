@@ -11,7 +11,7 @@ use lib.Signed.{_<ℤ_}
 use Rattle.whole.specs.Below.{below}
 use Rattle.whole.specs.Booleans.{not-both}
 use Rattle.whole.specs.Parts.{→<, parts-add}
-use Rattle.rebuild.specs.Rebuild.{keptBy}
+use Rattle.rebuilt.specs.Rebuild.{keptBy}
 
 -- a year stands in a list, at some place
 pub record StandsIn (years : List ℤ) (year : ℤ) : Type 0 where

@@ -14,9 +14,9 @@ use Rattle.sui.specs.Sui.{suiDays}
 use Rattle.content.specs.Content.{Content, suiCount, yearAt}
 use Rattle.almanac.specs.Layout.{fileOf}
 use Rattle.build.specs.Build.{bytesOfYears, bytesBuilt}
-use Rattle.rebuild.specs.declared.Rebuilt.{Rebuilt}
-use Rattle.rebuild.specs.declared.RebuildAnswer.{RebuildAnswer}
-use Rattle.rebuild.specs.declared.RebuildAnswer.the-variants as rebuild-answer
+use Rattle.rebuilt.specs.declared.Rebuilt.{Rebuilt}
+use Rattle.rebuilt.specs.declared.RebuildAnswer.{RebuildAnswer}
+use Rattle.rebuilt.specs.declared.RebuildAnswer.the-variants as rebuild-answer
 
 -- ---- the old file: "13 first, when the old file is not one that the old inputs give"
 -- the years of a file: the first, and how many

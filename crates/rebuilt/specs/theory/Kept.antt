@@ -15,7 +15,7 @@ use Rattle.months.specs.theory.Days.{found-listed, found-count, found-is}
 use Rattle.months.specs.theory.Listed.{at-most-thirteen}
 use Rattle.sui.specs.Sui.{newMoonDays, zhongqiDays, suiDays}
 use Rattle.sui.specs.theory.Answered.{days-found}
-use Rattle.rebuild.specs.Rebuild.{daysWords, sameDays, isKept}
+use Rattle.rebuilt.specs.Rebuild.{daysWords, sameDays, isKept}
 use Rattle.alike.specs.Alike.{words-are, words-alike}
 
 -- ---- the days of a sui have fourteen places for new moons ..

@@ -24,7 +24,7 @@ use Rattle.almanac.specs.theory.Reader.{checked}
 use Rattle.build.specs.Build.{contentBuilt, bytesBuilt, builtBy, bytesBy}
 use Rattle.build.specs.Theorems.{BuiltFile, built-is-read, one-sui-a-year, sui-of-each-year}
 use Rattle.build.specs.theory.Count.{count-natural, count-small}
-use Rattle.rebuild.specs.Rebuild.{Years, yearsIn, isFile, givenBy, mostBytes}
+use Rattle.rebuilt.specs.Rebuild.{Years, yearsIn, isFile, givenBy, mostBytes}
 use Rattle.alike.specs.Alike.{bytes-are, bytes-alike}
 
 -- ---- a build that gave these bytes

@@ -25,9 +25,9 @@ use Rattle.content.specs.Content.{content, monthsBefore, followsYear, goodSui, 
 use Rattle.almanac.specs.Fields.{times, numbersIn, bytesFor}
 use Rattle.almanac.specs.Layout.{endAt, bytesOf, countsOf, contentAt, contentOf, fileOf}
 use Rattle.build.specs.Build.{monthsIn, wordsOf}
-use Rattle.rebuild.specs.declared.Rebuilt.{Rebuilt}
-use Rattle.rebuild.specs.Rebuild.{Years, givenBy, daysWords, sameDays, isKept, keptBy, NewFile, newFileBy, rebuiltBy, mostBytes, counted, new-bytes, kept-years}
-use Rattle.rebuild.specs.Theorems.{taken}
+use Rattle.rebuilt.specs.declared.Rebuilt.{Rebuilt}
+use Rattle.rebuilt.specs.Rebuild.{Years, givenBy, daysWords, sameDays, isKept, keptBy, NewFile, newFileBy, rebuiltBy, mostBytes, counted, new-bytes, kept-years}
+use Rattle.rebuilt.specs.Theorems.{taken}
 
 -- ---- how the examples are written
 -- a lawful file (`almanac` has the rules): months one after another from a first day, handle and length of each

@@ -1,0 +1,4 @@
+pub mod Rebuild
+pub mod theory
+pub mod Theorems
+pub mod Examples

@@ -1,0 +1,4 @@
+pub mod Records
+pub mod Given
+pub mod Kept
+pub mod Listed
