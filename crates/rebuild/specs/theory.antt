@@ -1,7 +1,3 @@
-pub mod Again
-pub mod Putting
-pub mod Old
-pub mod Walking
 pub mod Written
 pub mod Copied
 pub mod Judging

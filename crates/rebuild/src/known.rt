@@ -1,11 +1,11 @@
 // The old side: from accepted old inputs to the old days ahead, whether they give the old file, and then the new side.
-use super::days::keep_days;
 use super::new::rebuild_new;
 use super::old::gives;
 use build::inner::ahead::find_ahead;
 use build::inner::ahead::newmoon_days;
 use build::inner::ahead::solstice_days;
 use build::inner::ahead::zhongqi_days;
+use kept_or_made::inner::days::keep_days;
 use rebuilt::RebuildAnswer;
 use series::Body;
 use suis::inner::BeginAnswer;

@@ -10,13 +10,10 @@ ghost use Rattle.clock.specs.Clock.{utc8};
 ghost use Rattle.inputs.specs.Inputs.{inputs};
 ghost use Rattle.rebuilt.specs.Rebuild.{rebuilt, paperRebuilt, counted, new-bytes, kept-years};
 
-mod days;
 mod known;
 mod new;
 mod old;
-mod walk;
 mod writing;
-mod years;
 
 // Rebuilds the file of the old file's years from new inputs, by UTC+8 days, and lists the years of the suis whose days they leave as they were: 13 unless the old
 // inputs give the old file, then as a build of the new inputs refuses, then 12 where bytes or years have no room. Refused, nothing is written.

@@ -24,7 +24,7 @@ ghost use Rattle.corrected.specs.Shared.{Shared};
 ghost use Rattle.build.specs.Build.{bytesOfYears};
 ghost use Rattle.build.specs.theory.Walk.{Begins, Walks};
 ghost use Rattle.rebuilt.specs.Rebuild.{newFileBy, paperRebuilt, counted, new-bytes, kept-years};
-ghost use Rattle.rebuild.specs.theory.Again.{listedAgain, Copies};
+ghost use Rattle.kept_or_made.specs.Again.{listedAgain, Copies};
 ghost use Rattle.rebuild.specs.theory.Over.{freshBytes};
 
 // The new file, by where the first sui begins under old and new inputs.

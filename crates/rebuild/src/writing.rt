@@ -1,9 +1,9 @@
 // The new file and the years, by the days ahead: everything is judged before the first byte or year is written.
-use super::days::put_words;
-use super::walk::put_years_again;
-use super::years::AgainAnswer;
 use almanac::WriteAnswer;
 use almanac::inner::write_lawful;
+use kept_or_made::inner::days::put_words;
+use kept_or_made::inner::walk::put_years_again;
+use kept_or_made::inner::years::AgainAnswer;
 use rebuilt::RebuildAnswer;
 use rebuilt::Rebuilt;
 use suis::inner::Places;
@@ -16,7 +16,7 @@ ghost use Rattle.inputs.specs.Inputs.{inputs};
 ghost use Rattle.build.specs.Build.{bytesOfYears};
 ghost use Rattle.build.specs.theory.Walk.{Walks};
 ghost use Rattle.rebuilt.specs.Rebuild.{newFileBy, paperRebuilt, counted, new-bytes, kept-years};
-ghost use Rattle.rebuild.specs.theory.Again.{listedAgain, Copies};
+ghost use Rattle.kept_or_made.specs.Again.{listedAgain, Copies};
 
 // Room for the records of 128 suis, two words each, and for their years.
 fn sui_words() -> [i64; 256]

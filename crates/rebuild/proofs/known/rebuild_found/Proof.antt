@@ -19,7 +19,7 @@ use Rattle.build.specs.Build.{bytesOfYears}
 use Rattle.build.specs.theory.Walk.{Begins}
 use Rattle.rebuilt.specs.Rebuild.{isFile, mostBytes}
 use Rattle.rebuilt.specs.theory.Given.{is-file}
-use Rattle.rebuild.specs.theory.Old.{daysOfYears}
+use Rattle.kept_or_made.specs.OldDays.{daysOfYears}
 use Rattle.rebuild.specs.theory.Copied.{all-found, copies-from-old, listed-is-kept}
 use Rattle.rebuild.specs.theory.Over.{rebuiltOver, says-refused, same-says, not-its-file, is-its-file}
 use borrow.Author.Needs.{needs}
@@ -27,7 +27,7 @@ use Rattle.rebuild.proofs.known.rebuild_found.Statement.{statement}
 use Rattle.rebuild.proofs.known.rebuild_found.Tie as tie
 use Rattle.rebuild.proofs.known.rebuild_found.Reads as reads
 use Rattle.rebuild.proofs.known.rebuild_found.Lts as lts
-use Rattle.rebuild.proofs.days.keep_days.Reads as keep-days-reads
+use Rattle.kept_or_made.proofs.inner.days.keep_days.Reads as keep-days-reads
 use Rattle.rebuild.proofs.new.rebuild_new.Reads as rebuild-new-reads
 use Rattle.rebuild.proofs.old.gives.Reads as gives-reads
 

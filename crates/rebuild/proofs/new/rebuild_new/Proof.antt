@@ -14,7 +14,7 @@ use Rattle.suis.specs.theory.Begun.{begun-answered, begun-refused}
 use Rattle.build.specs.Build.{bytesOfYears}
 use Rattle.build.specs.theory.Walk.{Begins}
 use Rattle.rebuilt.specs.Rebuild.{newFileBy}
-use Rattle.rebuild.specs.theory.Again.{listedAgain}
+use Rattle.kept_or_made.specs.Again.{listedAgain}
 use Rattle.rebuild.specs.theory.Over.{freshBytes, says-refused, same-says, new-refused, new-accepted, not-built-new, first-refused}
 use borrow.Author.Needs.{needs}
 use Rattle.rebuild.proofs.new.rebuild_new.Statement.{statement}

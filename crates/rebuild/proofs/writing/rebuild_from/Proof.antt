@@ -18,10 +18,10 @@ use Rattle.content.specs.Content.{Content, content}
 use Rattle.almanac.specs.Answers.{paperWritten, bytesInto}
 use Rattle.build.specs.Build.{suisFrom, suiWords, monthWords, bytesOfYears}
 use Rattle.build.specs.theory.File.{months-few, front-suis, sui-length, month-length, front-months, words-lawful}
-use Rattle.rebuild.specs.declared.years.Again.{Again as AgainRecord}
-use Rattle.rebuild.specs.declared.years.AgainAnswer.the-variants.{Again, Refused}
-use Rattle.rebuild.specs.theory.Again.{paperAgain, yearsAgain, listedAgain}
-use Rattle.rebuild.specs.theory.Walking.{YearsFound, years-refused, years-found, listed-few}
+use Rattle.kept_or_made.specs.declared.inner.years.Again.{Again as AgainRecord}
+use Rattle.kept_or_made.specs.declared.inner.years.AgainAnswer.the-variants.{Again, Refused}
+use Rattle.kept_or_made.specs.Again.{paperAgain, yearsAgain, listedAgain}
+use Rattle.kept_or_made.specs.theory.Walking.{YearsFound, years-refused, years-found, listed-few}
 use Rattle.rebuild.specs.theory.Written.{fresh-refused, fresh-bytes, counted-refused, counted-answered, Promises, not-built, few-places, all-written, bytes-or-12}
 use borrow.Author.Needs.{needs}
 use Rattle.rebuild.proofs.writing.rebuild_from.Statement.{statement}
@@ -29,8 +29,8 @@ use Rattle.rebuild.proofs.writing.rebuild_from.Tie as tie
 use Rattle.rebuild.proofs.writing.rebuild_from.Reads as reads
 use Rattle.rebuild.proofs.writing.rebuild_from.Lts as lts
 use Rattle.almanac.proofs.inner.write_lawful.Reads as write-lawful-reads
-use Rattle.rebuild.proofs.days.put_words.Reads as put-words-reads
-use Rattle.rebuild.proofs.walk.put_years_again.Reads as put-years-again-reads
+use Rattle.kept_or_made.proofs.inner.days.put_words.Reads as put-words-reads
+use Rattle.kept_or_made.proofs.inner.walk.put_years_again.Reads as put-years-again-reads
 use Rattle.rebuild.proofs.writing.sui_words.Reads as sui-words-reads
 use Rattle.rebuild.proofs.writing.year_words.Reads as year-words-reads
 

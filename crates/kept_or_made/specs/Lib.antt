@@ -1,0 +1,3 @@
+pub mod Again
+pub mod OldDays
+pub mod theory
