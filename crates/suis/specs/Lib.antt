@@ -1,4 +1,2 @@
 pub mod Ahead
-pub mod Again
 pub mod theory
-pub mod Examples

@@ -1,4 +1,4 @@
-// The parts of finding a sui's days in the days ahead of it: one solstice in each of two years, the zhongqi between them, the new moons from month 11 on.
+// The parts of finding a sui's days in the days ahead of it: one solstice in each of two years, the new moons from month 11 on.
 use month_rule::inner::days_of;
 use month_rule::inner::no_days;
 use months::DaysAnswer;
@@ -61,62 +61,6 @@ pub fn one_in_each(solstices: &[i64], year: i64) -> bool
     one_more(solstices, 1, next.0)
 }
 
-// The day of the i-th zhongqi from the solstice with this index on; the days of both solstices are known.
-fn zhongqi_between(
-    leap: &[i64],
-    start: Second,
-    coefs: &[i64],
-    zone: i64,
-    index: i64,
-    first: i64,
-    last: i64,
-    i: usize,
-) -> i64
-    requires { ⌜ Ready (now leap) (series Sun (start .0) (now coefs)) ⌝ }
-    requires { ⌜ Within 1000 zone ⌝ }
-    requires { ⌜ firstReached (series Sun (start .0) (now coefs)) <ℤ index ⌝ }
-    requires { ⌜ (index +ℤ pos 24) ≤ℤ lastReached (series Sun (start .0) (now coefs)) ⌝ }
-    requires { ⌜ first ≡ dayOfMark (now leap) (series Sun (start .0) (now coefs)) zone (index +ℤ pos (2 * 0)) .0 ⌝ }
-    requires { ⌜ last ≡ dayOfMark (now leap) (series Sun (start .0) (now coefs)) zone (index +ℤ pos (2 * 12)) .0 ⌝ }
-    requires { ⌜ i < 13 ⌝ }
-    ensures { λ r. ⌜ r ≡ dayOfMark (now (leap .entry)) (series Sun (start .0) (now (coefs .entry))) zone (index +ℤ pos (2 * i)) .0 ⌝ }
-{
-    if i == 0 {
-        return first;
-    }
-    if i == 12 {
-        return last;
-    }
-    zhongqi_day(leap, start, coefs, zone, index, i)
-}
-
-// The days of the thirteen zhongqi from one solstice to the next.
-pub fn zhongqi_days(
-    leap: &[i64],
-    start: Second,
-    coefs: &[i64],
-    zone: i64,
-    index: i64,
-    first: i64,
-    last: i64,
-) -> [i64; 13]
-    requires { ⌜ Ready (now leap) (series Sun (start .0) (now coefs)) ⌝ }
-    requires { ⌜ Within 1000 zone ⌝ }
-    requires { ⌜ firstReached (series Sun (start .0) (now coefs)) <ℤ index ⌝ }
-    requires { ⌜ (index +ℤ pos 24) ≤ℤ lastReached (series Sun (start .0) (now coefs)) ⌝ }
-    requires { ⌜ first ≡ dayOfMark (now leap) (series Sun (start .0) (now coefs)) zone (index +ℤ pos (2 * 0)) .0 ⌝ }
-    requires { ⌜ last ≡ dayOfMark (now leap) (series Sun (start .0) (now coefs)) zone (index +ℤ pos (2 * 12)) .0 ⌝ }
-    ensures { λ r. ⌜ r ≡ zhongqiFrom (now (leap .entry)) (series Sun (start .0) (now (coefs .entry))) zone index ⌝ }
-{
-    let mut days: [i64; 13] = [0; 13];
-    let mut i: usize = 0;
-    while i < 13 {
-        days[i] = zhongqi_between(leap, start, coefs, zone, index, first, last, i);
-        i += 1;
-    }
-    days
-}
-
 // No days of a sui of more than thirteen months: 8 where no new moon lies behind the second solstice, else 9.
 fn too_many(
     leap: &[i64],
@@ -162,16 +106,4 @@ pub fn days_within(
         return too_many(leap, start, coefs, zone, turns, last);
     }
     days_of(&newmoons[..15], zhongqi)
-}
-
-// Thirteen days, put into lent words.
-pub fn put_thirteen(out: &mut [i64], at: usize, days: [i64; 13])
-    requires { ⌜ at + 13 ≤ length (now out) ⌝ }
-    ensures { λ _. ⌜ now (out .exit) ≡ placed at days (now (out .entry)) ⌝ }
-{
-    let mut i: usize = 0;
-    while i < 13 {
-        out[at + i] = days[i];
-        i += 1;
-    }
 }

@@ -1,8 +1,6 @@
 // For builds of many suis: where the first one begins, the days ahead of it, and the sui of each year. The zone is in minutes.
 use super::finding::days_within;
 use super::finding::one_in_each;
-use super::finding::put_thirteen;
-use super::finding::zhongqi_days;
 use month_rule::inner::no_days;
 use months::DaysAnswer;
 use months::SuiAnswer;
@@ -17,6 +15,8 @@ use turns::inner::turn_index;
 use turns::inner::turns_by;
 use whole::inner::in_range;
 use whole::inner::subtract;
+use zhongqi::put_thirteen;
+use zhongqi::zhongqi_days;
 ghost use mathlib.Core.Path.{_≡_};
 ghost use mathlib.Core.List.{_++_};
 ghost use Prim.Native.Nat.{_+_, _*_, _≤_, _<_};
@@ -32,7 +32,7 @@ ghost use Rattle.turns.specs.Searched.{Searched};
 ghost use Rattle.sui.specs.Sui.{suiDays, suiOfYear};
 ghost use Rattle.suis.specs.Ahead.{Ahead, YearAhead, zhongqiOf, paperBegin, begun, fewer};
 
-pub mod again;
+pub mod zhongqi;
 
 // The place of the first solstice of a sui among the Sun's, and of month 11's new moon among the Moon's.
 pub struct Places {

@@ -21,7 +21,7 @@ use Rattle.turns.specs.Listed.{firstTurnOf, turnIndexOf, turnsOf, turn-after, t
 use Rattle.sui.specs.theory.Found.{zhongqiFrom}
 use Rattle.sui.specs.theory.Solstices.{one-circle-on}
 use Rattle.suis.specs.Ahead.{Ahead}
-use Rattle.suis.specs.Again.{outside-says, DaysKept, ZhongqiKept}
+use Rattle.kept_days.specs.KeptDays.{outside-says, DaysKept, ZhongqiKept}
 use Rattle.suis.specs.theory.Lookups.{day-is}
 use Rattle.corrected.specs.Shared.{Stays}
 

@@ -29,8 +29,8 @@ use Rattle.found_again.proofs.inner.find_by.Tie as tie
 use Rattle.found_again.proofs.inner.find_by.Reads as reads
 use Rattle.found_again.proofs.inner.find_by.Lts as lts
 use Rattle.corrected.proofs.inner.moved_marks.Reads as moved-marks-reads
-use Rattle.suis.proofs.inner.again.days_again.Reads as days-again-reads
-use Rattle.suis.proofs.inner.again.zhongqi_again.Reads as zhongqi-again-reads
+use Rattle.kept_days.proofs.inner.days_again.Reads as days-again-reads
+use Rattle.kept_days.proofs.inner.zhongqi_again.Reads as zhongqi-again-reads
 use Rattle.suis.proofs.inner.fewer.Reads as fewer-reads
 
 abbrev called : lts.Claims

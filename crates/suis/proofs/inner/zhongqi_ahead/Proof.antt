@@ -23,8 +23,8 @@ use Rattle.suis.proofs.inner.zhongqi_ahead.Statement.{statement}
 use Rattle.suis.proofs.inner.zhongqi_ahead.Tie as tie
 use Rattle.suis.proofs.inner.zhongqi_ahead.Reads as reads
 use Rattle.suis.proofs.inner.zhongqi_ahead.Lts as lts
-use Rattle.suis.proofs.finding.put_thirteen.Reads as put-thirteen-reads
-use Rattle.suis.proofs.finding.zhongqi_days.Reads as zhongqi-days-reads
+use Rattle.suis.proofs.inner.zhongqi.put_thirteen.Reads as put-thirteen-reads
+use Rattle.suis.proofs.inner.zhongqi.zhongqi_days.Reads as zhongqi-days-reads
 use Rattle.turns.proofs.inner.turn_index.Reads as turn-index-reads
 
 abbrev Inv-loop : tie.InvT-loop

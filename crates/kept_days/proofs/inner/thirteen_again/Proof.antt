@@ -1,4 +1,4 @@
--- `suis::inner::again::thirteen_again` meets its contract. In the needs, `start` is the function's entry. Assumes nothing.
+-- `kept_days::inner::thirteen_again` meets its contract. In the needs, `start` is the function's entry. Assumes nothing.
 use mathlib.Core.Path.{_≡_, sym, ap, ap₂, subst, _∙_}
 use Prim.Native.Nat.{suc, _+_, _*_, _<_}
 use native.Mathlib.Omega.{arith}
@@ -15,15 +15,15 @@ use Rattle.turns.specs.declared.inner.TurnList.{TurnList}
 use Rattle.turns.specs.Listed.{turnIndexOf, turn-after, turnsOf}
 use Rattle.turns.specs.Searched.{turn-fits, circles-small, count-is, count-small}
 use Rattle.sui.specs.theory.Solstices.{one-circle-on}
-use Rattle.suis.specs.Again.{outside}
+use Rattle.kept_days.specs.KeptDays.{outside}
 use Rattle.suis.specs.theory.Zhongqi.{first-known, last-known, last-listed, both-turns}
-use Rattle.suis.proofs.inner.again.thirteen_again.Statement.{statement}
-use Rattle.suis.proofs.inner.again.thirteen_again.Tie as tie
-use Rattle.suis.proofs.inner.again.thirteen_again.Reads as reads
-use Rattle.suis.proofs.inner.again.thirteen_again.Lts as lts
-use Rattle.suis.proofs.finding.zhongqi_days.Reads as zhongqi-days-reads
-use Rattle.suis.proofs.inner.again.outside.Reads as outside-reads
-use Rattle.suis.proofs.inner.again.thirteen.Reads as thirteen-reads
+use Rattle.kept_days.proofs.inner.thirteen_again.Statement.{statement}
+use Rattle.kept_days.proofs.inner.thirteen_again.Tie as tie
+use Rattle.kept_days.proofs.inner.thirteen_again.Reads as reads
+use Rattle.kept_days.proofs.inner.thirteen_again.Lts as lts
+use Rattle.suis.proofs.inner.zhongqi.zhongqi_days.Reads as zhongqi-days-reads
+use Rattle.kept_days.proofs.inner.outside.Reads as outside-reads
+use Rattle.kept_days.proofs.inner.thirteen.Reads as thirteen-reads
 use Rattle.turns.proofs.inner.turn_index.Reads as turn-index-reads
 use Rattle.whole.proofs.inner.add.Reads as add-reads
 

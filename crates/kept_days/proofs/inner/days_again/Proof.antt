@@ -1,4 +1,4 @@
--- `suis::inner::again::days_again` meets its contract. The loop's invariant: the first i days stand in front. Assumes nothing.
+-- `kept_days::inner::days_again` meets its contract. The loop's invariant: the first i days stand in front. Assumes nothing.
 use mathlib.Core.Path.{_≡_, refl, ap₂, _∙_}
 use mathlib.Core.List.{List, _++_}
 use Prim.Native.Nat.{ℕ, _+_, _-_, _≤_}
@@ -13,11 +13,11 @@ use Rattle.whole.specs.Ranges.{back}
 use Rattle.whole.specs.Tabulated.{tabulate, tabulate-turn}
 use Rattle.series.specs.Series.{Series, series}
 use Rattle.turns.specs.Listed.{turnDay}
-use Rattle.suis.proofs.inner.again.days_again.Statement.{statement}
-use Rattle.suis.proofs.inner.again.days_again.Tie as tie
-use Rattle.suis.proofs.inner.again.days_again.Reads as reads
-use Rattle.suis.proofs.inner.again.days_again.Lts as lts
-use Rattle.suis.proofs.inner.again.day_again.Reads as day-again-reads
+use Rattle.kept_days.proofs.inner.days_again.Statement.{statement}
+use Rattle.kept_days.proofs.inner.days_again.Tie as tie
+use Rattle.kept_days.proofs.inner.days_again.Reads as reads
+use Rattle.kept_days.proofs.inner.days_again.Lts as lts
+use Rattle.kept_days.proofs.inner.day_again.Reads as day-again-reads
 
 -- the day of the k-th turn from a place on
 abbrev dayAt : List ℤ → Series → ℤ → ℕ → ℕ → ℤ

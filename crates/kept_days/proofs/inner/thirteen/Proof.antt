@@ -1,4 +1,4 @@
--- `suis::inner::again::thirteen` meets its contract. The loop's invariant: the first i words stand in the array. Assumes nothing.
+-- `kept_days::inner::thirteen` meets its contract. The loop's invariant: the first i words stand in the array. Assumes nothing.
 use mathlib.Core.Path.{_≡_, refl, sym, ap, ap₂, _∙_}
 use mathlib.Core.List.{List, _++_, append-nil}
 use Prim.Native.Nat.{ℕ, _+_, _-_, _≤_}
@@ -9,8 +9,8 @@ use lib.ListN.{getD, set, take, drop, replicate, length-drop}
 use lib.Seq.{getD-drop}
 use Rattle.whole.specs.Ranges.{back}
 use Rattle.whole.specs.Tabulated.{copy-turn}
-use Rattle.suis.proofs.inner.again.thirteen.Statement.{statement}
-use Rattle.suis.proofs.inner.again.thirteen.Tie as tie
+use Rattle.kept_days.proofs.inner.thirteen.Statement.{statement}
+use Rattle.kept_days.proofs.inner.thirteen.Tie as tie
 
 abbrev Inv-loop : tie.InvT-loop
 Inv-loop words at days₀ i₀ days i = (i ≤ 13) × (days ≡ take i (drop at words) ++ drop i (replicate 13 (pos 0)))

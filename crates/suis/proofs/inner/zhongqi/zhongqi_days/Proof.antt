@@ -1,4 +1,4 @@
--- `suis::finding::zhongqi_days` meets its contract. The loop's invariant: the first i days stand in the array. Assumes nothing.
+-- `suis::inner::zhongqi::zhongqi_days` meets its contract. The loop's invariant: the first i days stand in the array. Assumes nothing.
 use mathlib.Core.Path.{_≡_, refl, _∙_}
 use mathlib.Core.List.{List, _++_, append-nil}
 use Prim.Native.Nat.{ℕ, _-_, _*_, _≤_}
@@ -13,11 +13,11 @@ use Rattle.whole.specs.Tabulated.{tabulate, tabulate-turn}
 use Rattle.series.specs.declared.Body.the-variants.{Sun}
 use Rattle.series.specs.Series.{Series, series}
 use Rattle.inputs.specs.Inputs.{dayOfMark}
-use Rattle.suis.proofs.finding.zhongqi_days.Statement.{statement}
-use Rattle.suis.proofs.finding.zhongqi_days.Tie as tie
-use Rattle.suis.proofs.finding.zhongqi_days.Reads as reads
-use Rattle.suis.proofs.finding.zhongqi_days.Lts as lts
-use Rattle.suis.proofs.finding.zhongqi_between.Reads as zhongqi-between-reads
+use Rattle.suis.proofs.inner.zhongqi.zhongqi_days.Statement.{statement}
+use Rattle.suis.proofs.inner.zhongqi.zhongqi_days.Tie as tie
+use Rattle.suis.proofs.inner.zhongqi.zhongqi_days.Reads as reads
+use Rattle.suis.proofs.inner.zhongqi.zhongqi_days.Lts as lts
+use Rattle.suis.proofs.inner.zhongqi.zhongqi_between.Reads as zhongqi-between-reads
 
 -- the day of the i-th zhongqi
 abbrev dayAt : List ℤ → Series → ℤ → ℤ → ℕ → ℤ

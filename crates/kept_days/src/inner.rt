@@ -1,8 +1,8 @@
 // The days ahead once more, where those from before a correction are known. Of marks that it has not moved they are kept; the marks that it may have moved are those
 // behind index `low` and up to `high`.
-use crate::finding::put_thirteen;
-use crate::finding::zhongqi_days;
 use series::Body;
+use suis::inner::zhongqi::put_thirteen;
+use suis::inner::zhongqi::zhongqi_days;
 use times::Second;
 use turns::inner::TurnList;
 use turns::inner::day_of_turn;
@@ -19,8 +19,8 @@ ghost use Rattle.series.specs.Series.{series};
 ghost use Rattle.turns.specs.Listed.{turnIndexOf, turnDay};
 ghost use Rattle.turns.specs.Searched.{Searched};
 ghost use Rattle.sui.specs.theory.Found.{zhongqiFrom};
 ghost use Rattle.suis.specs.Ahead.{Ahead, zhongqiOf};
-ghost use Rattle.suis.specs.Again.{outside, DaysKept, ThirteenKept, ZhongqiKept};
+ghost use Rattle.kept_days.specs.KeptDays.{outside, DaysKept, ThirteenKept, ZhongqiKept};
 
 // Whether none of the marks from the first to the last of these indices is one that may have moved.
 fn outside(low: i64, high: i64, first: i64, last: i64) -> bool

@@ -5,7 +5,7 @@ use mathlib.Core.List.{List, [], _∷_}
 use lib.Dec.{T}
 use lib.IntN.{ℤ, pos, negsuc}
 use Rattle.whole.specs.Evaluated.{all}
-use Rattle.suis.specs.Again.{outside}
+use Rattle.kept_days.specs.KeptDays.{outside}
 
 -- no mark from the first to the last of two indices is one of them
 abbrev stay : ℤ → ℤ → Bool

@@ -1,4 +1,4 @@
--- `suis::inner::again::zhongqi_again` meets its contract. The loop's invariant: the zhongqi days of the first j suis stand in front. Assumes nothing.
+-- `kept_days::inner::zhongqi_again` meets its contract. The loop's invariant: the zhongqi days of the first j suis stand in front. Assumes nothing.
 use mathlib.Core.Path.{_≡_, ap, _∙_}
 use mathlib.Core.List.{List}
 use Prim.Native.Nat.{_+_, _-_, _*_, _≤_, _<_}
@@ -15,14 +15,14 @@ use Rattle.series.specs.Series.{Series, series}
 use Rattle.turns.specs.Listed.{turnIndexOf}
 use Rattle.turns.specs.Searched.{count-is, count-small}
 use Rattle.sui.specs.theory.Found.{zhongqiFrom}
 use Rattle.suis.specs.Ahead.{zhongqiOf}
 use Rattle.suis.specs.theory.Zhongqi.{nothing-put, length-zhongqi, sui-put, both-turns}
-use Rattle.suis.proofs.inner.again.zhongqi_again.Statement.{statement}
-use Rattle.suis.proofs.inner.again.zhongqi_again.Tie as tie
-use Rattle.suis.proofs.inner.again.zhongqi_again.Reads as reads
-use Rattle.suis.proofs.inner.again.zhongqi_again.Lts as lts
-use Rattle.suis.proofs.finding.put_thirteen.Reads as put-thirteen-reads
-use Rattle.suis.proofs.inner.again.thirteen_again.Reads as thirteen-again-reads
+use Rattle.kept_days.proofs.inner.zhongqi_again.Statement.{statement}
+use Rattle.kept_days.proofs.inner.zhongqi_again.Tie as tie
+use Rattle.kept_days.proofs.inner.zhongqi_again.Reads as reads
+use Rattle.kept_days.proofs.inner.zhongqi_again.Lts as lts
+use Rattle.suis.proofs.inner.zhongqi.put_thirteen.Reads as put-thirteen-reads
+use Rattle.kept_days.proofs.inner.thirteen_again.Reads as thirteen-again-reads
 
 abbrev Inv-loop : tie.InvT-loop
 Inv-loop leap start coefs zone suns place m solstices low high known out₀ j₀ out j = (j ≤ m) × (out ≡ placed 0 (zhongqiOf leap (series Sun (start .0) coefs) (toZ w64 zone) place j) out₀)

@@ -1,4 +1,4 @@
--- `suis::finding::put_thirteen` meets its contract. The loop's invariant: the first i days are put. Assumes nothing.
+-- `suis::inner::zhongqi::put_thirteen` meets its contract. The loop's invariant: the first i days are put. Assumes nothing.
 use mathlib.Core.Path.{_≡_, refl, sym, ap, _∙_}
 use mathlib.Core.List.{List}
 use Prim.Native.Nat.{ℕ, _+_, _-_, _≤_}
@@ -12,10 +12,10 @@ use mir.Val.{SFits}
 use mir.Facts.{toZ-ofZ}
 use Rattle.whole.specs.Lists.{placed, placed-none, placed-length}
 use Rattle.suis.specs.theory.Zhongqi.{word-put}
-use Rattle.suis.proofs.finding.put_thirteen.Statement.{statement}
-use Rattle.suis.proofs.finding.put_thirteen.Tie as tie
-use Rattle.suis.proofs.finding.put_thirteen.Reads as reads
-use Rattle.suis.proofs.finding.put_thirteen.Lts as lts
+use Rattle.suis.proofs.inner.zhongqi.put_thirteen.Statement.{statement}
+use Rattle.suis.proofs.inner.zhongqi.put_thirteen.Tie as tie
+use Rattle.suis.proofs.inner.zhongqi.put_thirteen.Reads as reads
+use Rattle.suis.proofs.inner.zhongqi.put_thirteen.Lts as lts
 
 abbrev Inv-loop : tie.InvT-loop
 Inv-loop out₀ at days i₀ out i = (i ≤ 13) × (out ≡ placed at (take i days) out₀)

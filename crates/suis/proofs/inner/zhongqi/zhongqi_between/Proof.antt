@@ -1,4 +1,4 @@
--- `suis::finding::zhongqi_between` meets its contract. In the needs, `start` is the function's entry. Assumes nothing.
+-- `suis::inner::zhongqi::zhongqi_between` meets its contract. In the needs, `start` is the function's entry. Assumes nothing.
 use mathlib.Core.Path.{_≡_, ap, _∙_}
 use native.Mathlib.Omega.{arith}
 use Prim.Native.Nat.{ℕ, _*_}
@@ -8,10 +8,10 @@ use Rattle.whole.specs.Ranges.{back}
 use Rattle.series.specs.declared.Body.the-variants.{Sun}
 use Rattle.series.specs.Series.{Series, series}
 use Rattle.inputs.specs.Inputs.{dayOfMark}
-use Rattle.suis.proofs.finding.zhongqi_between.Statement.{statement}
-use Rattle.suis.proofs.finding.zhongqi_between.Tie as tie
-use Rattle.suis.proofs.finding.zhongqi_between.Reads as reads
-use Rattle.suis.proofs.finding.zhongqi_between.Lts as lts
+use Rattle.suis.proofs.inner.zhongqi.zhongqi_between.Statement.{statement}
+use Rattle.suis.proofs.inner.zhongqi.zhongqi_between.Tie as tie
+use Rattle.suis.proofs.inner.zhongqi.zhongqi_between.Reads as reads
+use Rattle.suis.proofs.inner.zhongqi.zhongqi_between.Lts as lts
 use Rattle.one_sui.proofs.inner.zhongqi_day.Reads as zhongqi-day-reads
 
 abbrev called : lts.Claims

@@ -1,4 +1,4 @@
--- `suis::inner::again::day_again` meets its contract. In the needs, `start` is the function's entry. Assumes nothing.
+-- `kept_days::inner::day_again` meets its contract. In the needs, `start` is the function's entry. Assumes nothing.
 use mathlib.Core.Path.{_≡_, sym, ap, ap₂, _∙_}
 use Prim.Native.Nat.{_+_, _<_}
 use native.Mathlib.Omega.{arith}
@@ -13,13 +13,13 @@ use Rattle.times.specs.declared.Day.{Day}
 use Rattle.turns.specs.declared.inner.TurnList.{TurnList}
 use Rattle.turns.specs.Listed.{firstTurnOf, turnIndexOf, turnDay, turnsOf}
 use Rattle.turns.specs.Searched.{turn-fits, circles-small, count-is, count-small}
-use Rattle.suis.specs.Again.{outside}
+use Rattle.kept_days.specs.KeptDays.{outside}
 use borrow.Author.Needs.{needs}
-use Rattle.suis.proofs.inner.again.day_again.Statement.{statement}
-use Rattle.suis.proofs.inner.again.day_again.Tie as tie
-use Rattle.suis.proofs.inner.again.day_again.Reads as reads
-use Rattle.suis.proofs.inner.again.day_again.Lts as lts
-use Rattle.suis.proofs.inner.again.outside.Reads as outside-reads
+use Rattle.kept_days.proofs.inner.day_again.Statement.{statement}
+use Rattle.kept_days.proofs.inner.day_again.Tie as tie
+use Rattle.kept_days.proofs.inner.day_again.Reads as reads
+use Rattle.kept_days.proofs.inner.day_again.Lts as lts
+use Rattle.kept_days.proofs.inner.outside.Reads as outside-reads
 use Rattle.turns.proofs.inner.day_of_turn.Reads as day-of-turn-reads
 use Rattle.turns.proofs.inner.turn_index.Reads as turn-index-reads
 

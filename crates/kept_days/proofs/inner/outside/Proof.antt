@@ -1,12 +1,12 @@
--- `suis::inner::again::outside` meets its contract. Assumes nothing.
+-- `kept_days::inner::outside` meets its contract. Assumes nothing.
 use mathlib.Core.Path.{_≡_, sym, ap₂, _∙_}
 use mathlib.Core.Bool.{true, false}
 use lib.Signed.{leZ, ltZ}
 use mir.Facts.{toZ-ofZ}
 use Rattle.whole.specs.Booleans.{first-holds, second-decides}
-use Rattle.suis.specs.Again.{outside}
-use Rattle.suis.proofs.inner.again.outside.Statement.{statement}
-use Rattle.suis.proofs.inner.again.outside.Tie as tie
+use Rattle.kept_days.specs.KeptDays.{outside}
+use Rattle.kept_days.proofs.inner.outside.Statement.{statement}
+use Rattle.kept_days.proofs.inner.outside.Tie as tie
 
 returns : tie.Need-returns
 unfolding outside

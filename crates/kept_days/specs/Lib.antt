@@ -1,0 +1,2 @@
+pub mod KeptDays
+pub mod Examples
