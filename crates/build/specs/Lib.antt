@@ -1,4 +1,1 @@
 pub mod theory
-pub mod Build
-pub mod Theorems
-pub mod Examples

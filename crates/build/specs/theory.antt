@@ -1,11 +1,3 @@
-pub mod Words
-pub mod Years
-pub mod Records
-pub mod Dated
-pub mod Kept
-pub mod Following
-pub mod Leaps
-pub mod Lawful
 pub mod Put
 pub mod Stored
 pub mod Answered

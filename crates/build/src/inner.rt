@@ -14,7 +14,7 @@ ghost use Rattle.refusals.specs.Lent.{writtenInto};
 ghost use Rattle.inputs.specs.Inputs.{inputs};
 ghost use Rattle.inputs.specs.Known.{Known};
 ghost use Rattle.almanac.specs.Answers.{paperWritten, bytesCounted, all-bytes};
-ghost use Rattle.build.specs.Build.{bytesOfYears};
+ghost use Rattle.built.specs.Build.{bytesOfYears};
 
 pub mod ahead;
 pub mod records;

@@ -9,7 +9,7 @@ ghost use Rattle.refusals.specs.Lent.{writtenInto};
 ghost use Rattle.clock.specs.Clock.{utc8};
 ghost use Rattle.inputs.specs.Inputs.{inputs};
 ghost use Rattle.almanac.specs.Answers.{paperWritten, all-bytes};
-ghost use Rattle.build.specs.Build.{bytesBuilt, fileBuilt};
+ghost use Rattle.built.specs.Build.{bytesBuilt, fileBuilt};
 
 pub mod inner;
 mod years;

@@ -19,7 +19,7 @@ ghost use Rattle.refusals.specs.Verdict.{answered};
 ghost use Rattle.months.specs.declared.Sui.{Sui};
 ghost use Rattle.sui.specs.Sui.{suiOfYear};
 ghost use Rattle.suis.specs.Ahead.{YearAhead};
-ghost use Rattle.build.specs.Build.{suisFrom, suiWords, monthWords};
+ghost use Rattle.built.specs.Build.{suisFrom, suiWords, monthWords};
 ghost use Rattle.build.specs.theory.Put.{paperYear, monthsOf, yearWords, sui-months, putWhen, paperYears, monthsIn};
 ghost use Rattle.build.specs.theory.Walk.{Walks};
 

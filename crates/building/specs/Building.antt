@@ -11,7 +11,7 @@ use Rattle.refusals.specs.Verdict.{Verdict, refuseWhen, _before_, _then_}
 use Rattle.words.specs.Words.{words}
 use Rattle.clock.specs.Clock.{utc8}
 use Rattle.layout.specs.Layout.{places, inputsAt}
-use Rattle.build.specs.Build.{bytesBuilt}
+use Rattle.built.specs.Build.{bytesBuilt}
 
 unfoldable pub builtFromRest : List ℤ → ℤ → ℤ → ℕ → Verdict (List ℕ)
 builtFromRest ws first count room = places ws then (λ p. bytesBuilt (inputsAt ws p) utc8 first count room)

@@ -18,7 +18,7 @@ use Rattle.chebyshev.specs.Segment.{sum, value, slope}
 use Rattle.series.specs.Acceptance.{seriesJudged}
 use Rattle.inputs.specs.Inputs.{inputsJudged}
 use Rattle.layout.specs.Layout.{sectionEnd, places}
-use Rattle.build.specs.Build.{builtBy}
+use Rattle.built.specs.Build.{builtBy}
 use Rattle.building.specs.declared.SeriesAnswer.{SeriesAnswer}
 use Rattle.building.specs.declared.SeriesAnswer.the-variants.{Sun, Moon, Neither}
 use Rattle.building.specs.Building.{builtFromRest, builtFromWords, lengthKept, builtFrom, allTaken, builtFromTaken}

@@ -17,7 +17,7 @@ use Rattle.marks.specs.Listed.{listedMarks}
 use Rattle.inputs.specs.Inputs.{Inputs, sun, moon, anyEarly, inputsJudged}
 use Rattle.layout.specs.declared.inner.Places.{Places}
 use Rattle.layout.specs.Layout.{places, inputsAt}
-use Rattle.build.specs.Build.{builtBy}
+use Rattle.built.specs.Build.{builtBy}
 use Rattle.building.specs.declared.SeriesAnswer.{SeriesAnswer}
 use Rattle.building.specs.declared.SeriesAnswer.the-variants.{Sun, Moon, Neither}
 use Rattle.building.specs.Building.{builtFromRest, builtFromWords, lengthKept, builtFrom}

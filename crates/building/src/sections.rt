@@ -9,7 +9,7 @@ ghost use Rattle.refusals.specs.Lent.{writtenInto};
 ghost use Rattle.clock.specs.Clock.{utc8};
 ghost use Rattle.layout.specs.Layout.{inputsAt};
 ghost use Rattle.almanac.specs.Answers.{paperWritten, bytesCounted, all-bytes};
-ghost use Rattle.build.specs.Build.{bytesBuilt};
+ghost use Rattle.built.specs.Build.{bytesBuilt};
 ghost use Rattle.building.specs.Building.{builtFromRest, builtFromWords};
 
 // By the words of leap table, Sun and Moon, whose sections stand at these places.

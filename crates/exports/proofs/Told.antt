@@ -7,7 +7,7 @@ use mir.Syntax.{w64}
 use mir.Val.{SFits, toZ, ofZ}
 use mir.Facts.{toZ-ofZ}
 use Rattle.refusals.specs.Verdict.{Verdict, answered, refused}
-use Rattle.exports.specs.Record.{numberOf, recordOf}
+use Rattle.answers.specs.Record.{numberOf, recordOf}
 
 number-first : {A : Type 0} (v : Verdict A) (numbers : A → List ℤ) → getD (recordOf v numbers) 0 (pos 0) ≡ numberOf v
 number-first (answered a) numbers = refl

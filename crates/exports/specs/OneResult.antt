@@ -23,10 +23,10 @@ use Rattle.months.specs.Limits.{monthsOf}
 use Rattle.sui.specs.Sui.{suiFor}
 use Rattle.content.specs.Content.{Content}
 use Rattle.almanac.specs.Answers.{checkedFile, contentRead, readFile, bytesToWrite, all-bytes, writtenFile}
-use Rattle.build.specs.Build.{bytesBuilt, fileBuilt}
+use Rattle.built.specs.Build.{bytesBuilt, fileBuilt}
 use Rattle.rebuilt.specs.Rebuild.{rebuilt, counted, new-bytes, kept-years}
-use Rattle.exports.specs.Record.{numberOf, recordOf, noNumbers, dateNumbers, dayNumbers, milliNumbers, shownNumbers, valueNumbers, countNumbers, fileNumbers, rebuiltNumbers}
-use Rattle.exports.specs.Months.{suiInto, suiWords, suiNumbers}
+use Rattle.answers.specs.Record.{numberOf, recordOf, noNumbers, dateNumbers, dayNumbers, milliNumbers, shownNumbers, valueNumbers, countNumbers, fileNumbers, rebuiltNumbers}
+use Rattle.answers.specs.Months.{suiInto, suiWords, suiNumbers}
 
 -- ---- the law
 -- a number returned and a record that the promise allows, where this is answered

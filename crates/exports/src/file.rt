@@ -1,5 +1,5 @@
 // The almanac file: checked, read, written, built and rebuilt.
-use crate::record;
+use answers::inner::record;
 use times::Second;
 ghost use mathlib.Core.Path.{_≡_};
 ghost use lib.ListN.{length};
@@ -8,9 +8,9 @@ ghost use Rattle.clock.specs.Clock.{utc8};
 ghost use Rattle.inputs.specs.Inputs.{inputs};
 ghost use Rattle.content.specs.Content.{content, leap-words, sui-words, month-words};
 ghost use Rattle.almanac.specs.Answers.{checkedFile, contentRead, readFile, bytesToWrite, all-bytes, writtenFile};
-ghost use Rattle.build.specs.Build.{bytesBuilt, fileBuilt};
+ghost use Rattle.built.specs.Build.{bytesBuilt, fileBuilt};
 ghost use Rattle.rebuilt.specs.Rebuild.{rebuilt, counted, new-bytes, kept-years};
-ghost use Rattle.exports.specs.Record.{numberOf, recordOf, countNumbers, fileNumbers, rebuiltNumbers};
+ghost use Rattle.answers.specs.Record.{numberOf, recordOf, countNumbers, fileNumbers, rebuiltNumbers};
 
 // Checks a file.
 #[no_mangle]

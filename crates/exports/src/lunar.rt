@@ -1,5 +1,5 @@
 // The months of a sui, from days and from series, into lent words.
-use crate::record;
+use answers::inner::record;
 use build::inner::records::put_months;
 use months::SuiAnswer;
 use refusals::Check;
@@ -12,8 +12,8 @@ ghost use Rattle.inputs.specs.Inputs.{inputs};
 ghost use Rattle.months.specs.Limits.{monthsOf};
 ghost use Rattle.months.specs.Answers.{paperSui};
 ghost use Rattle.sui.specs.Sui.{suiFor};
-ghost use Rattle.exports.specs.Record.{numberOf, recordOf};
-ghost use Rattle.exports.specs.Months.{suiInto, suiWords, suiNumbers};
+ghost use Rattle.answers.specs.Record.{numberOf, recordOf};
+ghost use Rattle.answers.specs.Months.{suiInto, suiWords, suiNumbers};
 ghost use Rattle.exports.specs.theory.Suis.{Storable};
 
 // Stores the months of what was found, from the start of `out` on, and makes the record. Its refusal, or 12 where `out` has fewer words than they take, stores

@@ -1,5 +1,5 @@
 // Series and marks, and the inputs of a build.
-use crate::record;
+use answers::inner::record;
 use series::Body;
 use times::Second;
 ghost use mathlib.Core.Path.{_≡_};
@@ -10,7 +10,7 @@ ghost use Rattle.series.specs.Acceptance.{seriesJudged, valueOf};
 ghost use Rattle.replacing.specs.Replaced.{segmentReplaced, segmentChecked, heldAfter};
 ghost use Rattle.marks.specs.Answers.{countedMarks, listedInto, wordsListed};
 ghost use Rattle.inputs.specs.Inputs.{inputs, inputsJudged};
-ghost use Rattle.exports.specs.Record.{numberOf, recordOf, noNumbers, valueNumbers, countNumbers, bodyOf};
+ghost use Rattle.answers.specs.Record.{numberOf, recordOf, noNumbers, valueNumbers, countNumbers, bodyOf};
 
 // Which body a flag says.
 fn body_of(moon: bool) -> Body

@@ -1,5 +1,5 @@
 // Days and dates, and the clock.
-use crate::record;
+use answers::inner::record;
 use dates::Date;
 use dates::DayAnswer;
 use times::Day;
@@ -10,7 +10,7 @@ ghost use Rattle.refusals.specs.Verdict.{answered};
 ghost use Rattle.dates.specs.Answers.{dateOf, dayOf};
 ghost use Rattle.clock.specs.Clock.{dayOfMilli};
 ghost use Rattle.clock.specs.Answers.{leapJudged, milliOf, dayOfSecond, shownOf};
-ghost use Rattle.exports.specs.Record.{numberOf, recordOf, noNumbers, dateNumbers, dayNumbers, milliNumbers, shownNumbers};
+ghost use Rattle.answers.specs.Record.{numberOf, recordOf, noNumbers, dateNumbers, dayNumbers, milliNumbers, shownNumbers};
 
 // The date of a day.
 #[no_mangle]

@@ -27,8 +27,8 @@ use Rattle.sui.specs.Sui.{suiFor}
 use Rattle.sui.specs.Theorems as of-sui
 use Rattle.almanac.specs.declared.WriteAnswer.{WriteAnswer}
 use Rattle.almanac.specs.Answers.{paperWritten, all-bytes}
-use Rattle.build.specs.Build.{bytesBuilt, fileBuilt}
-use Rattle.build.specs.Theorems as of-build
+use Rattle.built.specs.Build.{bytesBuilt, fileBuilt}
+use Rattle.built.specs.Theorems as of-build
 use Rattle.records.specs.declared.MonthsAnswer.{MonthsAnswer}
 use Rattle.records.specs.Records.{paperMonths, recordsInto, all-records, recordsCounted}
 use Rattle.records.specs.OneResult as of-records

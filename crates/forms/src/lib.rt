@@ -21,7 +21,7 @@ ghost use Rattle.clock.specs.Clock.{utc8};
 ghost use Rattle.inputs.specs.Inputs.{inputsJudged};
 ghost use Rattle.sui.specs.Sui.{suiFor};
 ghost use Rattle.almanac.specs.Answers.{paperWritten, all-bytes};
-ghost use Rattle.build.specs.Build.{bytesBuilt, fileBuilt};
+ghost use Rattle.built.specs.Build.{bytesBuilt, fileBuilt};
 ghost use Rattle.records.specs.Records.{paperMonths, recordsInto, all-records, recordsCounted};
 ghost use Rattle.forms.specs.Forms.{seriesOf, inputsOf};
 

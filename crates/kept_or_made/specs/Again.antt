@@ -15,7 +15,7 @@ use Rattle.months.specs.Months.{suiOf}
 use Rattle.sui.specs.Sui.{suiDays}
 use Rattle.almanac.specs.Fields.{times, numbersIn}
 use Rattle.almanac.specs.Layout.{monthFields}
-use Rattle.build.specs.Build.{suisFrom, monthWords}
+use Rattle.built.specs.Build.{suisFrom, monthWords}
 use Rattle.build.specs.theory.Put.{monthsOf, sui-months}
 use Rattle.kept_or_made.specs.declared.inner.years.PutAnswer.{PutAnswer}
 use Rattle.kept_or_made.specs.declared.inner.years.PutAnswer.the-variants as put-answer

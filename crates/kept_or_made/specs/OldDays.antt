@@ -28,8 +28,8 @@ use Rattle.sui.specs.theory.Answered.{days-found}
 use Rattle.sui.specs.theory.Found.{firstSolsticeOf, zhongqiFrom, sui-days-are}
 use Rattle.suis.specs.declared.inner.Places.{Places}
 use Rattle.suis.specs.theory.Next.{next-year}
-use Rattle.build.specs.Build.{suisFrom}
-use Rattle.build.specs.theory.Years.{suis-are}
+use Rattle.built.specs.Build.{suisFrom}
+use Rattle.built.specs.theory.Years.{suis-are}
 use Rattle.build.specs.theory.Walk.{Walks, Reached}
 use Rattle.rebuilt.specs.Rebuild.{daysWords}
 

@@ -21,7 +21,7 @@ ghost use lib.ListN.{length};
 ghost use Rattle.refusals.specs.Lent.{writtenInto};
 ghost use Rattle.inputs.specs.Inputs.{inputs};
 ghost use Rattle.corrected.specs.Shared.{Shared};
-ghost use Rattle.build.specs.Build.{bytesOfYears};
+ghost use Rattle.built.specs.Build.{bytesOfYears};
 ghost use Rattle.build.specs.theory.Walk.{Begins, Walks};
 ghost use Rattle.rebuilt.specs.Rebuild.{newFileBy, paperRebuilt, counted, new-bytes, kept-years};
 ghost use Rattle.kept_or_made.specs.Again.{listedAgain, Copies};

@@ -14,7 +14,7 @@ ghost use lib.ListN.{length};
 ghost use Rattle.refusals.specs.Verdict.{answered, _then_};
 ghost use Rattle.inputs.specs.Inputs.{inputs};
 ghost use Rattle.almanac.specs.Layout.{fileOf};
-ghost use Rattle.build.specs.Build.{bytesOfYears};
+ghost use Rattle.built.specs.Build.{bytesOfYears};
 ghost use Rattle.build.specs.theory.Walk.{Walks};
 ghost use Rattle.rebuilt.specs.Rebuild.{isFile, mostBytes, yearsIn};
 ghost use Rattle.rebuild.specs.theory.Judging.{paperYears};

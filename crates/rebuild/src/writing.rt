@@ -13,7 +13,7 @@ ghost use mathlib.Core.Path.{_≡_};
 ghost use lib.ListN.{length};
 ghost use Rattle.refusals.specs.Lent.{writtenInto};
 ghost use Rattle.inputs.specs.Inputs.{inputs};
-ghost use Rattle.build.specs.Build.{bytesOfYears};
+ghost use Rattle.built.specs.Build.{bytesOfYears};
 ghost use Rattle.build.specs.theory.Walk.{Walks};
 ghost use Rattle.rebuilt.specs.Rebuild.{newFileBy, paperRebuilt, counted, new-bytes, kept-years};
 ghost use Rattle.kept_or_made.specs.Again.{listedAgain, Copies};

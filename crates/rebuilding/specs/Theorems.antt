@@ -14,7 +14,7 @@ use Rattle.clock.specs.Clock.{utc8}
 use Rattle.inputs.specs.Inputs.{Inputs}
 use Rattle.layout.specs.declared.inner.Places.{Places}
 use Rattle.layout.specs.Layout.{places, inputsAt}
-use Rattle.build.specs.Build.{bytesBuilt}
+use Rattle.built.specs.Build.{bytesBuilt}
 use Rattle.building.specs.Building.{builtFromRest, builtFromWords, lengthKept, builtFrom}
 use Rattle.rebuilt.specs.Rebuild.{NewFile}
 use Rattle.rebuilt.specs.Theorems.{Fresh, rebuilt-is-fresh}

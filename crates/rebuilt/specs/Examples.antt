@@ -24,7 +24,7 @@ use Rattle.months.specs.Months.{monthLength, isWithin, zhongqiIn, zhongqiOf, wi
 use Rattle.content.specs.Content.{content, monthsBefore, followsYear, goodSui, leapsBefore, goodHandle, goodStart, goodDays, goodMonth, goodMonths, goodSuiMonths, wholeSuis, lawful}
 use Rattle.almanac.specs.Fields.{times, numbersIn, bytesFor}
 use Rattle.almanac.specs.Layout.{endAt, bytesOf, countsOf, contentAt, contentOf, fileOf}
-use Rattle.build.specs.Build.{monthsIn, wordsOf}
+use Rattle.built.specs.Build.{monthsIn, wordsOf}
 use Rattle.rebuilt.specs.declared.Rebuilt.{Rebuilt}
 use Rattle.rebuilt.specs.Rebuild.{Years, givenBy, daysWords, sameDays, isKept, keptBy, NewFile, newFileBy, rebuiltBy, mostBytes, counted, new-bytes, kept-years}
 use Rattle.rebuilt.specs.Theorems.{taken}

@@ -13,7 +13,7 @@ use Rattle.months.specs.declared.SuiDays.{SuiDays}
 use Rattle.sui.specs.Sui.{suiDays}
 use Rattle.content.specs.Content.{Content, suiCount, yearAt}
 use Rattle.almanac.specs.Layout.{fileOf}
-use Rattle.build.specs.Build.{bytesOfYears, bytesBuilt}
+use Rattle.built.specs.Build.{bytesOfYears, bytesBuilt}
 use Rattle.rebuilt.specs.declared.Rebuilt.{Rebuilt}
 use Rattle.rebuilt.specs.declared.RebuildAnswer.{RebuildAnswer}
 use Rattle.rebuilt.specs.declared.RebuildAnswer.the-variants as rebuild-answer

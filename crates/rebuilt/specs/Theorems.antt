@@ -25,11 +25,11 @@ use Rattle.content.specs.Content.{Content, entryCount, suiCount, monthsBefore}
 use Rattle.almanac.specs.Fields.{times, numbersIn}
 use Rattle.almanac.specs.Layout.{monthFields, monthsAt, fileOf}
 use Rattle.almanac.specs.theory.Part.{months-in-file}
-use Rattle.build.specs.Build.{monthsIn, wordsOf, monthWords, contentFor, contentBy, suisFrom, bytesBuilt}
-use Rattle.build.specs.Theorems.{built-is-read}
-use Rattle.build.specs.theory.Records.{suiAt}
-use Rattle.build.specs.theory.Words.{month-words-snoc}
-use Rattle.build.specs.theory.Years.{suis-are}
+use Rattle.built.specs.Build.{monthsIn, wordsOf, monthWords, contentFor, contentBy, suisFrom, bytesBuilt}
+use Rattle.built.specs.Theorems.{built-is-read}
+use Rattle.built.specs.theory.Records.{suiAt}
+use Rattle.built.specs.theory.Words.{month-words-snoc}
+use Rattle.built.specs.theory.Years.{suis-are}
 use Rattle.rebuilt.specs.declared.RebuildAnswer.{RebuildAnswer}
 use Rattle.rebuilt.specs.declared.RebuildAnswer.the-variants as rebuild-answer
 use Rattle.rebuilt.specs.Rebuild.{Years, NewFile, newFileBy, rebuiltBy, mostBytes, given, keptBy, kept, rebuilt, paperRebuilt, counted, new-bytes, kept-years}

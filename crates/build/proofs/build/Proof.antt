@@ -10,7 +10,8 @@ use Rattle.refusals.specs.Verdict.{paperCheck, accepted-is}
 use Rattle.clock.specs.Clock.{utc8}
 use Rattle.inputs.specs.Inputs.{Inputs, inputs, InputsAccepted}
 use Rattle.inputs.specs.Theorems.{known}
-use Rattle.build.specs.theory.Count.{count-natural, count-small, inputs-refused, count-refused, years-built}
+use Rattle.built.specs.theory.Count.{count-natural, count-small}
+use Rattle.build.specs.theory.Count.{inputs-refused, count-refused, years-built}
 use borrow.Author.Needs.{needs}
 use Rattle.build.proofs.build.Statement.{statement}
 use Rattle.build.proofs.build.Tie as tie

@@ -18,12 +18,12 @@ use Rattle.sui.specs.Sui.{suiOfYear}
 use Rattle.suis.specs.theory.Next.{next-year}
 use Rattle.content.specs.Content.{Content, content, lawful}
 use Rattle.almanac.specs.Answers.{bytesInto, bytesCounted, all-bytes}
-use Rattle.build.specs.Build.{suisFrom, wordsOf, monthsIn as monthsOf, suiWords, monthWords, contentFor, contentBuilt, bytesOfYears, bytesBy, contentBy, suisBy}
+use Rattle.built.specs.Build.{suisFrom, wordsOf, monthsIn as monthsOf, suiWords, monthWords, contentFor, contentBuilt, bytesOfYears, bytesBy, contentBy, suisBy}
 use Rattle.build.specs.theory.Put.{monthsIn}
-use Rattle.build.specs.theory.Words.{length-sui-words, length-words-of, month-words-snoc}
-use Rattle.build.specs.theory.Years.{SuisOf, suis-are, suis-refused}
-use Rattle.build.specs.theory.Records.{sui-has-its-months, suis-whole, length-month-words}
-use Rattle.build.specs.theory.Lawful.{content-is-lawful}
+use Rattle.built.specs.theory.Words.{length-sui-words, length-words-of, month-words-snoc}
+use Rattle.built.specs.theory.Years.{SuisOf, suis-are, suis-refused}
+use Rattle.built.specs.theory.Records.{sui-has-its-months, suis-whole, length-month-words}
+use Rattle.built.specs.theory.Lawful.{content-is-lawful}
 
 -- ---- what the number of months tells
 pub years-refused : (v : Verdict (List Sui)) {number segment : ℕ} → refused number segment ≡ monthsIn v → v ≡ refused number segment

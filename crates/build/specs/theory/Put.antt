@@ -10,7 +10,7 @@ use Rattle.build.specs.declared.years.YearAnswer.{YearAnswer}
 use Rattle.build.specs.declared.years.YearAnswer.the-variants as year
 use Rattle.build.specs.declared.years.YearsAnswer.{YearsAnswer}
 use Rattle.build.specs.declared.years.YearsAnswer.the-variants as years
-use Rattle.build.specs.Build.{wordsOf, monthsIn as months-in, monthWords}
+use Rattle.built.specs.Build.{wordsOf, monthsIn as months-in, monthWords}
 
 abbrev pub paperYear : YearAnswer → Verdict ℕ
 paperYear (year.Year count) = answered count

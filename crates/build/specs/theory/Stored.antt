@@ -8,8 +8,8 @@ use lib.ListN.{length, getD, take, drop, take-append-drop}
 use lib.Seq.{take-suc, length-take-le}
 use Rattle.whole.specs.Lists.{placed, placed-both}
 use Rattle.months.specs.declared.Month.{Month}
-use Rattle.build.specs.Build.{wordsOf}
-use Rattle.build.specs.theory.Words.{length-words-of, words-of-snoc}
+use Rattle.built.specs.Build.{wordsOf}
+use Rattle.built.specs.theory.Words.{length-words-of, words-of-snoc}
 
 -- nothing put
 pub nothing-put : (at : ℕ) (l : List ℤ) → l ≡ placed at (wordsOf []) l

@@ -27,11 +27,11 @@ use Rattle.suis.specs.Ahead.{Ahead, YearAhead, solsticesBefore}
 use Rattle.suis.specs.theory.Begun.{BegunAt}
 use Rattle.suis.specs.theory.Lookups.{ahead-drop}
 use Rattle.suis.specs.theory.Next.{next-year}
-use Rattle.build.specs.Build.{suisFrom, suiWords, monthWords, monthsIn as months-in, suisBy}
+use Rattle.built.specs.Build.{suisFrom, suiWords, monthWords, monthsIn as months-in, suisBy}
 use Rattle.build.specs.theory.Put.{yearWords, sui-months, monthsIn}
-use Rattle.build.specs.theory.Words.{length-sui-words, sui-words-snoc, month-words-snoc, length-words-of}
-use Rattle.build.specs.theory.Records.{sui-has-its-months}
-use Rattle.build.specs.theory.Years.{suis-are, suis-next, suis-refused}
+use Rattle.built.specs.theory.Words.{length-sui-words, sui-words-snoc, month-words-snoc, length-words-of}
+use Rattle.built.specs.theory.Records.{sui-has-its-months}
+use Rattle.built.specs.theory.Years.{suis-are, suis-next, suis-refused}
 
 -- accepted inputs, the turns of both, where the first sui begins, and 1 to 128 suis
 pub record Begins (i : Inputs) (zone : ℤ) (suns moons : TurnList) (places : Places) (first : ℤ) (n : ℕ) : Type 0 where

@@ -16,7 +16,7 @@ ghost use lib.ListN.{length, take};
 ghost use Rattle.refusals.specs.Lent.{writtenInto};
 ghost use Rattle.inputs.specs.Inputs.{inputs};
 ghost use Rattle.almanac.specs.Answers.{paperWritten, bytesCounted, all-bytes};
-ghost use Rattle.build.specs.Build.{bytesOfYears};
+ghost use Rattle.built.specs.Build.{bytesOfYears};
 ghost use Rattle.build.specs.theory.Walk.{Begins, Walks};
 
 // Room for the days ahead of 128 suis: a solstice each and two more, thirteen new moons each and two more.

@@ -8,7 +8,7 @@ ghost use Prim.Native.Nat.{_+_, _*_, _≤_, _<_, _^_};
 ghost use lib.IntN.{pos};
 ghost use lib.ListN.{length};
 ghost use Rattle.whole.specs.Lists.{placed};
-ghost use Rattle.build.specs.Build.{wordsOf, monthsIn};
+ghost use Rattle.built.specs.Build.{wordsOf, monthsIn};
 
 // Year and number of months.
 pub fn put_sui(out: &mut [i64], at: usize, year: i64, count: usize)

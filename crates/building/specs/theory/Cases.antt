@@ -15,7 +15,7 @@ use Rattle.clock.specs.Clock.{utc8}
 use Rattle.layout.specs.declared.inner.Places.{Places}
 use Rattle.layout.specs.Layout.{places, inputsAt}
 use Rattle.almanac.specs.Answers.{bytesCounted, all-bytes}
-use Rattle.build.specs.Build.{bytesBuilt}
+use Rattle.built.specs.Build.{bytesBuilt}
 use Rattle.building.specs.Building.{builtFromRest, builtFromWords, lengthKept, allTaken, builtFromTaken}
 
 -- what a function answers, and what it leaves in the lent file, by what is to be written

@@ -18,14 +18,14 @@ use Rattle.almanac.specs.declared.Counts.{Counts}
 use Rattle.almanac.specs.Layout.{suisAt, monthsAt, endAt, countsOf, contentOf, bytesOf, fileOf}
 use Rattle.almanac.specs.Answers.{countsIn, checkedFile, tooShort, contentRead, readFile, bytesInto, bytesToWrite, writtenFile}
 use Rattle.almanac.specs.theory.Reader.{checked}
-use Rattle.build.specs.Build.{suisBy, contentBy, bytesBy, builtBy, contentBuilt, bytesOfYears, bytesBuilt, fileBuilt}
+use Rattle.built.specs.Build.{suisBy, contentBy, bytesBy, builtBy, contentBuilt, bytesOfYears, bytesBuilt, fileBuilt}
 use Rattle.sui.specs.Sui.{suiOfYear}
 use Rattle.sui.specs.theory.Answered.{inputs-answered}
 use Rattle.rebuilt.specs.declared.Rebuilt.{Rebuilt}
 use Rattle.rebuilt.specs.Rebuild.{NewFile, yearsIn, isFile, mostBytes, givenBy, newFileBy, rebuiltBy, keptBy, kept, rebuilt, counted}
 use Rattle.rebuilt.specs.Theorems.{rebuilt-is-fresh, given-means, most-bytes-are-enough}
 use Rattle.rebuild.specs.theory.Judging.{years-few}
-use Rattle.exports.specs.Fits.{Fits, none, itself, fileSize, rebuiltSize, answer, test, _and_, and-then, with-answer}
+use Rattle.answers.specs.Fits.{Fits, none, itself, fileSize, rebuiltSize, answer, test, _and_, and-then, with-answer}
 use Rattle.exports.specs.theory.Sky.{inputs-fit}
 use Rattle.exports.specs.theory.Suis.{sui-of-year-fits}
 

@@ -21,7 +21,7 @@ use Rattle.marks.specs.Answers.{countedMarks, listedInto}
 use Rattle.marks.specs.Theorems.{listed-only-when}
 use Rattle.marks.specs.theory.StretchLaws.{few}
 use Rattle.inputs.specs.Inputs.{Inputs, sun, moon, anyEarly, inputsJudged}
-use Rattle.exports.specs.Fits.{Fits, inTable, none, itself, answer, test, _and_, and-then, with-answer}
+use Rattle.answers.specs.Fits.{Fits, inTable, none, itself, answer, test, _and_, and-then, with-answer}
 use Rattle.exports.specs.theory.Time.{leap-fits}
 
 -- ---- series: a segment that is named is one of the series'

@@ -31,11 +31,11 @@ use Rattle.months.specs.theory.Listed.{at-most-thirteen}
 use Rattle.months.specs.theory.Suis.{IsSui, days-of-sui, sui-is}
 use Rattle.sui.specs.Sui.{oneSolstice, solsticesOf, newMoonDaysOf, zhongqiDaysOf, daysByMarks, suiDays, suiOfYear, suiFor}
 use Rattle.sui.specs.Theorems.{answered-is-sui}
-use Rattle.build.specs.Build.{monthsIn}
-use Rattle.build.specs.theory.Words.{length-words-of}
-use Rattle.exports.specs.Record.{recordOf, noNumbers, countNumbers}
-use Rattle.exports.specs.Months.{suiWords, suiInto, suiNumbers}
-use Rattle.exports.specs.Fits.{Fits, none, answer, test, _and_, and-then}
+use Rattle.built.specs.Build.{monthsIn}
+use Rattle.built.specs.theory.Words.{length-words-of}
+use Rattle.answers.specs.Record.{recordOf, noNumbers, countNumbers}
+use Rattle.answers.specs.Months.{suiWords, suiInto, suiNumbers}
+use Rattle.answers.specs.Fits.{Fits, none, answer, test, _and_, and-then}
 use Rattle.exports.specs.theory.Sky.{inputs-fit}
 
 -- ---- what storing asks

@@ -12,7 +12,7 @@ use Rattle.dates.specs.Answers.{hasDate, dateOf, dayOf}
 use Rattle.clock.specs.Leap.{leapLawful}
 use Rattle.clock.specs.Clock.{utc8, convertible, early, shownIn, shownOfMilli, milliIn}
 use Rattle.clock.specs.Answers.{leapJudged, clockJudged, milliOf, dayOfSecond, shownOf}
-use Rattle.exports.specs.Fits.{Fits, none, shownSize, answer, test, _and_}
+use Rattle.answers.specs.Fits.{Fits, none, shownSize, answer, test, _and_}
 
 -- ---- days and dates
 pub date-fits : (n : Day) → Fits none (dateOf n)

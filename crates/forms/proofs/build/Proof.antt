@@ -53,7 +53,7 @@ use Rattle.almanac.specs.declared.WriteAnswer.{WriteAnswer}
 use Rattle.almanac.specs.Answers.{paperWritten, all-bytes}
 use Rattle.almanac.proofs.WriteAnswer as S
 use Rattle.almanac.proofs.WriteAnswer.Laws as S′
-use Rattle.build.specs.Build.{bytesBuilt, fileBuilt}
+use Rattle.built.specs.Build.{bytesBuilt, fileBuilt}
 use Rattle.build.proofs.build as callee
 use Rattle.build.proofs.build.Symbol as callee-def
 use Rattle.build.proofs.build.Symbol.{name as #callee}

@@ -18,7 +18,7 @@ use Rattle.months.specs.theory.Suis.{sui-count}
 use Rattle.turns.specs.declared.inner.TurnList.{TurnList}
 use Rattle.sui.specs.Sui.{suiDays, suiOfYear}
 use Rattle.suis.specs.declared.inner.Places.{Places}
-use Rattle.build.specs.Build.{suisFrom, suiWords, monthWords}
+use Rattle.built.specs.Build.{suisFrom, suiWords, monthWords}
 use Rattle.build.specs.theory.Put.{monthsOf, yearWords, sui-months}
 use Rattle.build.specs.theory.Walk.{Walks, Walked}
 use Rattle.kept_or_made.specs.declared.inner.years.Again.{Again}

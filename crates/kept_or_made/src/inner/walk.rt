@@ -15,7 +15,7 @@ ghost use lib.ListN.{length, drop};
 ghost use Rattle.inputs.specs.Inputs.{inputs};
 ghost use Rattle.refusals.specs.Verdict.{answered};
 ghost use Rattle.months.specs.declared.Sui.{Sui};
-ghost use Rattle.build.specs.Build.{suisFrom, suiWords, monthWords};
+ghost use Rattle.built.specs.Build.{suisFrom, suiWords, monthWords};
 ghost use Rattle.build.specs.theory.Walk.{Walks};
 ghost use Rattle.kept_or_made.specs.Again.{paperAgain, listedAgain, yearsAgain, Copies};
 

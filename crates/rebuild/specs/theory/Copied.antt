@@ -26,11 +26,11 @@ use Rattle.almanac.specs.Layout.{monthsAt, bytesOf, fileOf}
 use Rattle.almanac.specs.Answers.{bytesInto}
 use Rattle.almanac.specs.Theorems.{written-is-read}
 use Rattle.almanac.specs.theory.Part.{months-in-file}
-use Rattle.build.specs.Build.{suisFrom, suiWords, monthWords, contentFor, contentBuilt, contentBy, bytesOfYears, bytesBy}
-use Rattle.build.specs.Theorems.{built-is-lawful, one-sui-a-year}
+use Rattle.built.specs.Build.{suisFrom, suiWords, monthWords, contentFor, contentBuilt, contentBy, bytesOfYears, bytesBy}
+use Rattle.built.specs.Theorems.{built-is-lawful, one-sui-a-year}
 use Rattle.build.specs.theory.Put.{sui-months}
-use Rattle.build.specs.theory.Records.{suiAt, none-before, months-more, count-at}
-use Rattle.build.specs.theory.Years.{suis-are}
+use Rattle.built.specs.theory.Records.{suiAt, none-before, months-more, count-at}
+use Rattle.built.specs.theory.Years.{suis-are}
 use Rattle.rebuilt.specs.Rebuild.{mostBytes, daysWords, sameDays, isKept, keptBy, kept}
 use Rattle.kept_or_made.specs.Again.{isSameAs, monthsAtPlace, listedAgain, Copies}
 use Rattle.alike.specs.Alike.{words-are, words-alike}

@@ -11,7 +11,7 @@ use Rattle.refusals.specs.Verdict.{Verdict, answered, refused, accepted, refuse
 use Rattle.inputs.specs.Inputs.{Inputs, inputsJudged}
 use Rattle.content.specs.Content.{Content}
 use Rattle.almanac.specs.Layout.{fileOf}
-use Rattle.build.specs.Build.{bytesOfYears, bytesBuilt, builtBy}
+use Rattle.built.specs.Build.{bytesOfYears, bytesBuilt, builtBy}
 use Rattle.rebuilt.specs.Rebuild.{Years, NewFile, isFile, mostBytes, newFileBy, keptBy, kept, given, givenBy, rebuilt, rebuiltBy, yearsIn}
 use Rattle.rebuild.specs.theory.Over.{freshBytes, rebuiltOver}
 

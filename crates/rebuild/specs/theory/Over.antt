@@ -15,8 +15,8 @@ use Rattle.inputs.specs.Inputs.{Inputs, inputsJudged}
 use Rattle.sui.specs.Sui.{suiOfYear}
 use Rattle.almanac.specs.Layout.{fileOf}
 use Rattle.content.specs.Content.{Content}
-use Rattle.build.specs.Build.{bytesOfYears, bytesBuilt, builtBy, bytesBy, contentBy, suisBy}
-use Rattle.build.specs.theory.Years.{suis-refused}
+use Rattle.built.specs.Build.{bytesOfYears, bytesBuilt, builtBy, bytesBy, contentBy, suisBy}
+use Rattle.built.specs.theory.Years.{suis-refused}
 use Rattle.rebuilt.specs.declared.Rebuilt.{Rebuilt}
 use Rattle.rebuilt.specs.Rebuild.{Years, NewFile, isFile, mostBytes, newFileBy, keptBy, kept, rebuilt, rebuiltBy, givenBy, yearsIn, counted, new-bytes, kept-years}
 

@@ -15,7 +15,7 @@ use Rattle.months.specs.declared.Sui.{Sui}
 use Rattle.content.specs.Content.{Content, content}
 use Rattle.almanac.specs.Layout.{bytesOf}
 use Rattle.almanac.specs.Answers.{bytesInto, bytesCounted, all-bytes}
-use Rattle.build.specs.Build.{suisFrom, suiWords, monthWords, bytesOfYears, bytesBy, contentBy}
+use Rattle.built.specs.Build.{suisFrom, suiWords, monthWords, bytesOfYears, bytesBy, contentBy}
 use Rattle.rebuilt.specs.declared.Rebuilt.{Rebuilt}
 use Rattle.rebuilt.specs.Rebuild.{NewFile, newFileBy, counted, new-bytes, kept-years}
 

@@ -21,9 +21,9 @@ use Rattle.content.specs.Content.{Content, lawful, yearAt}
 use Rattle.almanac.specs.Layout.{bytesOf, suisAt, monthsAt, endAt, countsOf, contentAt, contentOf, fileOf}
 use Rattle.almanac.specs.Answers.{countsIn, checkedFile, bytesInto}
 use Rattle.almanac.specs.theory.Reader.{checked}
-use Rattle.build.specs.Build.{contentBuilt, bytesBuilt, builtBy, bytesBy}
-use Rattle.build.specs.Theorems.{BuiltFile, built-is-read, one-sui-a-year, sui-of-each-year}
-use Rattle.build.specs.theory.Count.{count-natural, count-small}
+use Rattle.built.specs.Build.{contentBuilt, bytesBuilt, builtBy, bytesBy}
+use Rattle.built.specs.Theorems.{BuiltFile, built-is-read, one-sui-a-year, sui-of-each-year}
+use Rattle.built.specs.theory.Count.{count-natural, count-small}
 use Rattle.rebuilt.specs.Rebuild.{Years, yearsIn, isFile, givenBy, mostBytes}
 use Rattle.alike.specs.Alike.{bytes-are, bytes-alike}
 

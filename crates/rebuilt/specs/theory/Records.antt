@@ -13,10 +13,10 @@ use Rattle.months.specs.declared.Sui.{Sui}
 use Rattle.months.specs.Answers.{noSui}
 use Rattle.sui.specs.Sui.{suiOfYear}
 use Rattle.content.specs.Content.{countAt, monthsBefore}
-use Rattle.build.specs.Build.{monthsIn, wordsOf, suiWords, monthWords, suisBy, suisFrom}
-use Rattle.build.specs.theory.Records.{suiAt, none-before, months-more, count-at, sui-has-its-months}
-use Rattle.build.specs.theory.Words.{length-words-of, month-words-snoc}
-use Rattle.build.specs.theory.Years.{suis-are}
+use Rattle.built.specs.Build.{monthsIn, wordsOf, suiWords, monthWords, suisBy, suisFrom}
+use Rattle.built.specs.theory.Records.{suiAt, none-before, months-more, count-at, sui-has-its-months}
+use Rattle.built.specs.theory.Words.{length-words-of, month-words-snoc}
+use Rattle.built.specs.theory.Years.{suis-are}
 
 module _ (i : Inputs) (zone first : ℤ) where
   -- ---- the last of some suis, and those before it

@@ -11,7 +11,7 @@ use Rattle.months.specs.Answers.{suiAnswer}
 use Rattle.sui.specs.Sui.{suiOfYear}
 use Rattle.suis.specs.theory.Next.{next-year}
 use Rattle.build.specs.theory.Answered.{sui-answered, sui-refused, nothing-put, all-put}
-use Rattle.build.specs.theory.Records.{sui-has-its-months}
+use Rattle.built.specs.theory.Records.{sui-has-its-months}
 use borrow.Author.Needs.{needs}
 use Rattle.build.proofs.years.put_year.Statement.{statement}
 use Rattle.build.proofs.years.put_year.Tie as tie

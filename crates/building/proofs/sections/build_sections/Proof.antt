@@ -5,7 +5,7 @@ use lib.ListN.{getD}
 use mir.Syntax.{w64}
 use mir.Val.{SFits}
 use mir.Facts.{toZ-ofZ}
-use Rattle.build.specs.Build.{fileBuilt}
+use Rattle.built.specs.Build.{fileBuilt}
 use borrow.Author.Needs.{needs}
 use Rattle.building.proofs.sections.build_sections.Statement.{statement}
 use Rattle.building.proofs.sections.build_sections.Tie as tie

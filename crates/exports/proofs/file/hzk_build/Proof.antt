@@ -8,9 +8,9 @@ use Rattle.refusals.specs.Lent.{writtenInto}
 use Rattle.clock.specs.Clock.{utc8}
 use Rattle.inputs.specs.Inputs.{Inputs, inputs}
 use Rattle.almanac.specs.Answers.{paperWritten, all-bytes}
-use Rattle.build.specs.Build.{bytesBuilt, fileBuilt}
+use Rattle.built.specs.Build.{bytesBuilt, fileBuilt}
 use Rattle.exports.specs.theory.File.{build-fits}
-use Rattle.exports.specs.Record.{countNumbers}
+use Rattle.answers.specs.Record.{countNumbers}
 use Rattle.exports.proofs.Told.{told}
 use Rattle.exports.proofs.file.hzk_build.Statement.{statement}
 use Rattle.exports.proofs.file.hzk_build.Tie as tie

@@ -3,7 +3,7 @@ use borrow.Author.Needs.{needs}
 use mathlib.Core.Path.{_≡_}
 use Rattle.almanac.specs.Answers.{paperFile, checkedFile}
 use Rattle.exports.specs.theory.File.{check-fits}
-use Rattle.exports.specs.Record.{fileNumbers}
+use Rattle.answers.specs.Record.{fileNumbers}
 use Rattle.exports.proofs.Told.{told}
 use Rattle.exports.proofs.file.hzk_check_file.Statement.{statement}
 use Rattle.exports.proofs.file.hzk_check_file.Tie as tie

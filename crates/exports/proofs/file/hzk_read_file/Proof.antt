@@ -4,7 +4,7 @@ use lib.ListN.{length}
 use Rattle.almanac.specs.Answers.{paperFile}
 use Rattle.almanac.specs.theory.Reader.{Promises}
 use Rattle.exports.specs.theory.File.{read-fits}
-use Rattle.exports.specs.Record.{fileNumbers}
+use Rattle.answers.specs.Record.{fileNumbers}
 use Rattle.exports.proofs.Told.{told}
 use Rattle.exports.proofs.file.hzk_read_file.Statement.{statement}
 use Rattle.exports.proofs.file.hzk_read_file.Tie as tie

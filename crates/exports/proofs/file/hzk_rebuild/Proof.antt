@@ -10,7 +10,7 @@ use Rattle.clock.specs.Clock.{utc8}
 use Rattle.inputs.specs.Inputs.{Inputs, inputs}
 use Rattle.rebuilt.specs.Rebuild.{NewFile, rebuilt, paperRebuilt, counted, new-bytes, kept-years}
 use Rattle.exports.specs.theory.File.{rebuild-fits}
-use Rattle.exports.specs.Record.{rebuiltNumbers}
+use Rattle.answers.specs.Record.{rebuiltNumbers}
 use Rattle.exports.proofs.Told.{told}
 use Rattle.exports.proofs.file.hzk_rebuild.Statement.{statement}
 use Rattle.exports.proofs.file.hzk_rebuild.Tie as tie

@@ -7,7 +7,7 @@ use Rattle.refusals.specs.Lent.{writtenInto}
 use Rattle.content.specs.Content.{Content, content}
 use Rattle.almanac.specs.Answers.{paperWritten, bytesToWrite, all-bytes, writtenFile}
 use Rattle.exports.specs.theory.File.{write-fits}
-use Rattle.exports.specs.Record.{countNumbers}
+use Rattle.answers.specs.Record.{countNumbers}
 use Rattle.exports.proofs.Told.{told}
 use Rattle.exports.proofs.file.hzk_write_file.Statement.{statement}
 use Rattle.exports.proofs.file.hzk_write_file.Tie as tie

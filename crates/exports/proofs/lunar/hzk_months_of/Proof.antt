@@ -7,7 +7,7 @@ use Rattle.refusals.specs.Verdict.{Verdict}
 use Rattle.months.specs.declared.Sui.{Sui}
 use Rattle.months.specs.Limits.{monthsOf}
 use Rattle.months.specs.Answers.{paperSui}
-use Rattle.exports.specs.Months.{suiInto, suiNumbers}
+use Rattle.answers.specs.Months.{suiInto, suiNumbers}
 use Rattle.exports.specs.theory.Suis.{on-paper, months-storable}
 use Rattle.exports.proofs.Told.{told}
 use Rattle.exports.proofs.lunar.hzk_months_of.Statement.{statement}

@@ -10,7 +10,7 @@ use Rattle.inputs.specs.Inputs.{Inputs, inputs}
 use Rattle.months.specs.declared.Sui.{Sui}
 use Rattle.months.specs.Answers.{paperSui}
 use Rattle.sui.specs.Sui.{suiFor}
-use Rattle.exports.specs.Months.{suiInto, suiNumbers}
+use Rattle.answers.specs.Months.{suiInto, suiNumbers}
 use Rattle.exports.specs.theory.Suis.{on-paper, sui-storable}
 use Rattle.exports.proofs.Told.{told}
 use Rattle.exports.proofs.lunar.hzk_sui.Statement.{statement}

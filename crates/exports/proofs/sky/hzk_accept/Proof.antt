@@ -6,7 +6,7 @@ use mir.Facts.{toZ-ofZ}
 use Rattle.refusals.specs.Verdict.{paperCheck}
 use Rattle.series.specs.Series.{Series, series}
 use Rattle.series.specs.Acceptance.{seriesJudged}
-use Rattle.exports.specs.Record.{noNumbers, bodyOf}
+use Rattle.answers.specs.Record.{noNumbers, bodyOf}
 use Rattle.exports.specs.theory.Sky.{series-fits}
 use Rattle.exports.proofs.Told.{told}
 use Rattle.exports.proofs.sky.hzk_accept.Statement.{statement}

@@ -5,7 +5,7 @@ use native.Mathlib.Omega.{arith}
 use mir.Facts.{toZ-ofZ}
 use Rattle.series.specs.Series.{Series, series}
 use Rattle.marks.specs.Answers.{paperCount, countedMarks}
-use Rattle.exports.specs.Record.{countNumbers, bodyOf}
+use Rattle.answers.specs.Record.{countNumbers, bodyOf}
 use Rattle.exports.specs.theory.Sky.{count-fits}
 use Rattle.exports.proofs.Told.{told}
 use Rattle.exports.proofs.sky.hzk_count_marks.Statement.{statement}

@@ -6,7 +6,7 @@ use mir.Facts.{toZ-ofZ}
 use Rattle.refusals.specs.Verdict.{paperCheck}
 use Rattle.inputs.specs.Inputs.{Inputs, inputs, inputsJudged}
 use Rattle.exports.specs.theory.Sky.{inputs-fit}
-use Rattle.exports.specs.Record.{noNumbers}
+use Rattle.answers.specs.Record.{noNumbers}
 use Rattle.exports.proofs.Told.{told}
 use Rattle.exports.proofs.sky.hzk_judge_inputs.Statement.{statement}
 use Rattle.exports.proofs.sky.hzk_judge_inputs.Tie as tie

@@ -7,7 +7,7 @@ use mir.Facts.{toZ-ofZ}
 use Rattle.refusals.specs.Lent.{writtenInto}
 use Rattle.series.specs.Series.{Series, series}
 use Rattle.marks.specs.Answers.{paperList, listedInto, wordsListed}
-use Rattle.exports.specs.Record.{countNumbers, bodyOf}
+use Rattle.answers.specs.Record.{countNumbers, bodyOf}
 use Rattle.exports.specs.theory.Sky.{list-fits}
 use Rattle.exports.proofs.Told.{told}
 use Rattle.exports.proofs.sky.hzk_list_marks.Statement.{statement}

@@ -7,7 +7,7 @@ use mir.Facts.{toZ-ofZ}
 use Rattle.refusals.specs.Verdict.{paperCheck}
 use Rattle.series.specs.Series.{Series, series}
 use Rattle.replacing.specs.Replaced.{segmentReplaced, segmentChecked, heldAfter}
-use Rattle.exports.specs.Record.{noNumbers, bodyOf}
+use Rattle.answers.specs.Record.{noNumbers, bodyOf}
 use Rattle.exports.specs.theory.Sky.{replaced-fits}
 use Rattle.exports.proofs.Told.{told}
 use Rattle.exports.proofs.sky.hzk_replace_segment.Statement.{statement}

@@ -5,7 +5,7 @@ use native.Mathlib.Omega.{arith}
 use mir.Facts.{toZ-ofZ}
 use Rattle.series.specs.Series.{Series, series}
 use Rattle.series.specs.Acceptance.{paperValue, valueOf}
-use Rattle.exports.specs.Record.{valueNumbers, bodyOf}
+use Rattle.answers.specs.Record.{valueNumbers, bodyOf}
 use Rattle.exports.specs.theory.Sky.{value-fits}
 use Rattle.exports.proofs.Told.{told}
 use Rattle.exports.proofs.sky.hzk_value_at.Statement.{statement}

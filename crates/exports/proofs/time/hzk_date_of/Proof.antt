@@ -4,7 +4,7 @@ use mathlib.Core.Path.{_≡_}
 use mir.Facts.{toZ-ofZ}
 use Rattle.dates.specs.Answers.{paperDate, dateOf}
 use Rattle.exports.specs.theory.Time.{date-fits}
-use Rattle.exports.specs.Record.{dateNumbers}
+use Rattle.answers.specs.Record.{dateNumbers}
 use Rattle.exports.proofs.Told.{told}
 use Rattle.exports.proofs.time.hzk_date_of.Statement.{statement}
 use Rattle.exports.proofs.time.hzk_date_of.Tie as tie

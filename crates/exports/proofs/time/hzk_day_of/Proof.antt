@@ -5,7 +5,7 @@ use mir.Facts.{toZ-ofZ}
 use Rattle.dates.specs.declared.Date.{Date}
 use Rattle.dates.specs.Answers.{paperDay, dayOf}
 use Rattle.exports.specs.theory.Time.{day-fits}
-use Rattle.exports.specs.Record.{dayNumbers}
+use Rattle.answers.specs.Record.{dayNumbers}
 use Rattle.exports.proofs.Told.{told}
 use Rattle.exports.proofs.time.hzk_day_of.Statement.{statement}
 use Rattle.exports.proofs.time.hzk_day_of.Tie as tie

@@ -4,7 +4,7 @@ use mathlib.Core.Path.{_≡_, ap}
 use mir.Facts.{toZ-ofZ}
 use Rattle.refusals.specs.Verdict.{answered}
 use Rattle.clock.specs.Clock.{dayOfMilli}
-use Rattle.exports.specs.Record.{dayNumbers}
+use Rattle.answers.specs.Record.{dayNumbers}
 use Rattle.exports.proofs.Told.{told}
 use Rattle.exports.proofs.time.hzk_day_of_milli.Statement.{statement}
 use Rattle.exports.proofs.time.hzk_day_of_milli.Tie as tie

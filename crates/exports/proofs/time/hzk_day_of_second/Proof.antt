@@ -5,7 +5,7 @@ use mir.Facts.{toZ-ofZ}
 use Rattle.dates.specs.Answers.{paperDay}
 use Rattle.clock.specs.Answers.{dayOfSecond}
 use Rattle.exports.specs.theory.Time.{day-of-second-fits}
-use Rattle.exports.specs.Record.{dayNumbers}
+use Rattle.answers.specs.Record.{dayNumbers}
 use Rattle.exports.proofs.Told.{told}
 use Rattle.exports.proofs.time.hzk_day_of_second.Statement.{statement}
 use Rattle.exports.proofs.time.hzk_day_of_second.Tie as tie

@@ -4,7 +4,7 @@ use mathlib.Core.Path.{_≡_}
 use Rattle.refusals.specs.Verdict.{paperCheck}
 use Rattle.clock.specs.Answers.{leapJudged}
 use Rattle.exports.specs.theory.Time.{leap-fits}
-use Rattle.exports.specs.Record.{noNumbers}
+use Rattle.answers.specs.Record.{noNumbers}
 use Rattle.exports.proofs.Told.{told}
 use Rattle.exports.proofs.time.hzk_judge_leap_table.Statement.{statement}
 use Rattle.exports.proofs.time.hzk_judge_leap_table.Tie as tie

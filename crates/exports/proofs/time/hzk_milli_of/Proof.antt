@@ -4,7 +4,7 @@ use mathlib.Core.Path.{_≡_}
 use mir.Facts.{toZ-ofZ}
 use Rattle.clock.specs.Answers.{paperMilli, milliOf}
 use Rattle.exports.specs.theory.Time.{milli-fits}
-use Rattle.exports.specs.Record.{milliNumbers}
+use Rattle.answers.specs.Record.{milliNumbers}
 use Rattle.exports.proofs.Told.{told}
 use Rattle.exports.proofs.time.hzk_milli_of.Statement.{statement}
 use Rattle.exports.proofs.time.hzk_milli_of.Tie as tie

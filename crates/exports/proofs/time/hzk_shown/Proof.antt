@@ -4,7 +4,7 @@ use mathlib.Core.Path.{_≡_}
 use mir.Facts.{toZ-ofZ}
 use Rattle.clock.specs.Answers.{paperShown, shownOf}
 use Rattle.exports.specs.theory.Time.{shown-fits}
-use Rattle.exports.specs.Record.{shownNumbers}
+use Rattle.answers.specs.Record.{shownNumbers}
 use Rattle.exports.proofs.Told.{told}
 use Rattle.exports.proofs.time.hzk_shown.Statement.{statement}
 use Rattle.exports.proofs.time.hzk_shown.Tie as tie

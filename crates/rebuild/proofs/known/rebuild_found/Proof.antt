@@ -15,7 +15,7 @@ use Rattle.refusals.specs.Verdict.{Verdict, answered}
 use Rattle.clock.specs.theory.Table.{few}
 use Rattle.inputs.specs.Inputs.{Inputs, inputs}
 use Rattle.almanac.specs.Layout.{monthsAt}
-use Rattle.build.specs.Build.{bytesOfYears}
+use Rattle.built.specs.Build.{bytesOfYears}
 use Rattle.build.specs.theory.Walk.{Begins}
 use Rattle.rebuilt.specs.Rebuild.{isFile, mostBytes}
 use Rattle.rebuilt.specs.theory.Given.{is-file}

@@ -11,7 +11,7 @@ use Rattle.inputs.specs.Known.{Known}
 use Rattle.inputs.specs.Theorems.{known}
 use Rattle.suis.specs.Ahead.{paperBegin, begun}
 use Rattle.suis.specs.theory.Begun.{begun-answered, begun-refused}
-use Rattle.build.specs.Build.{bytesOfYears}
+use Rattle.built.specs.Build.{bytesOfYears}
 use Rattle.build.specs.theory.Walk.{Begins}
 use Rattle.rebuilt.specs.Rebuild.{newFileBy}
 use Rattle.kept_or_made.specs.Again.{listedAgain}

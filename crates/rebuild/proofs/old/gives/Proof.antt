@@ -10,7 +10,7 @@ use mir.Facts.{toZ-ofZ}
 use Rattle.refusals.specs.Verdict.{Verdict}
 use Rattle.inputs.specs.Inputs.{Inputs, inputs}
 use Rattle.almanac.specs.Answers.{paperWritten}
-use Rattle.build.specs.Build.{bytesOfYears}
+use Rattle.built.specs.Build.{bytesOfYears}
 use Rattle.rebuilt.specs.Rebuild.{mostBytes, isFile}
 use Rattle.rebuild.specs.theory.Judging.{not-its-file, wrote, its-file}
 use Rattle.rebuild.proofs.old.gives.Statement.{statement}

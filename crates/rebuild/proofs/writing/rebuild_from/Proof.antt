@@ -16,7 +16,7 @@ use Rattle.inputs.specs.Inputs.{Inputs, inputs}
 use Rattle.months.specs.declared.Sui.{Sui}
 use Rattle.content.specs.Content.{Content, content}
 use Rattle.almanac.specs.Answers.{paperWritten, bytesInto}
-use Rattle.build.specs.Build.{suisFrom, suiWords, monthWords, bytesOfYears}
+use Rattle.built.specs.Build.{suisFrom, suiWords, monthWords, bytesOfYears}
 use Rattle.build.specs.theory.File.{months-few, front-suis, sui-length, month-length, front-months, words-lawful}
 use Rattle.kept_or_made.specs.declared.inner.years.Again.{Again as AgainRecord}
 use Rattle.kept_or_made.specs.declared.inner.years.AgainAnswer.the-variants.{Again, Refused}

@@ -8,8 +8,8 @@ use lib.ListN.{length, take}
 use lib.Seq.{length-take-le}
 use Rattle.whole.specs.Lists.{placed, placed-length}
 use Rattle.months.specs.declared.Month.{Month}
-use Rattle.build.specs.Build.{wordsOf}
-use Rattle.build.specs.theory.Words.{length-words-of}
+use Rattle.built.specs.Build.{wordsOf}
+use Rattle.built.specs.theory.Words.{length-words-of}
 use Rattle.build.specs.theory.Stored.{nothing-put, month-put}
 use Rattle.build.proofs.inner.records.put_months.Statement.{statement}
 use Rattle.build.proofs.inner.records.put_months.Tie as tie

@@ -28,7 +28,7 @@ use Rattle.turns.specs.Listed.{turns-few}
 use Rattle.sui.specs.Sui.{suiDays, suiOfYear}
 use Rattle.suis.specs.Ahead.{YearAhead}
 use Rattle.suis.specs.theory.Next.{next-year}
-use Rattle.build.specs.Build.{suisFrom}
+use Rattle.built.specs.Build.{suisFrom}
 use Rattle.build.specs.theory.Answered.{year-refused, year-found}
 use Rattle.build.specs.theory.Put.{monthsOf, sui-months}
 use Rattle.build.specs.theory.Walk.{walk-starts, walk-goes-on, walk-ends, walk-stops, year-ahead, solstices-reach, moons-reach, sui-room, month-room}

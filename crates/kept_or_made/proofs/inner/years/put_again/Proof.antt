@@ -14,7 +14,7 @@ use Rattle.months.specs.Answers.{suiAnswer}
 use Rattle.months.specs.theory.Listed.{at-most-thirteen}
 use Rattle.months.specs.theory.Suis.{sui-count}
 use Rattle.build.specs.theory.Answered.{sui-answered, sui-refused}
-use Rattle.build.specs.theory.Records.{has-its-months}
+use Rattle.built.specs.theory.Records.{has-its-months}
 use Rattle.kept_or_made.specs.Again.{monthsAtPlace}
 use Rattle.kept_or_made.specs.theory.Putting.{copied-when, refused-when, made-when}
 use borrow.Author.Needs.{needs}

@@ -1,0 +1,5 @@
+pub mod Record
+pub mod Months
+pub mod Fits
+pub mod Theorems
+pub mod Examples

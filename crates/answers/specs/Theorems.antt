@@ -1,0 +1,26 @@
+-- What a call returns tells a C program which it is: 0 exactly where the entry point answered, else a number of the rules' table, 1 to 13. (`theory` shows `Fits` of
+-- what each export answers.) Assumes nothing but what a statement says itself.
+use mathlib.Core.Path.{_≡_, refl, ap, subst}
+use mathlib.Core.Bool.{Bool, true, false, _&&_}
+use mathlib.Core.Logic.{_↔_}
+use Prim.Native.Nat.{ℕ, _≤_, _<_}
+use lib.Dec.{T, ltb, leb, ltb→lt, leb→le}
+use lib.IntN.{pos}
+use Rattle.refusals.specs.Verdict.{Verdict, answered, refused}
+use Rattle.answers.specs.Record.{numberOf}
+use Rattle.answers.specs.Fits.{Fits, inTable}
+
+module _ {A : Type 0} {size : A → ℕ} where
+  zero-answers : (v : Verdict A) → Fits size v → numberOf v ≡ pos 0 → (a : A) × (v ≡ answered a)
+  zero-answers (answered a) f e = (a, refl)
+  zero-answers (refused number segment) f e = let none : number ≡ 0 = cc in absurd (subst (λ (n : ℕ). T (inTable n)) none (f .numbered))
+
+  pub zero-exactly-when-answered : (v : Verdict A) → Fits size v → numberOf v ≡ pos 0 ↔ ((a : A) × (v ≡ answered a))
+  zero-exactly-when-answered v f = (zero-answers v f, λ p. ap (λ (w : Verdict A). numberOf w) (p .1))
+
+  pub refused-by-1-to-13 : {number segment : ℕ} → Fits size (refused number segment) → (0 < number) × (number ≤ 13)
+  refused-by-1-to-13 {number} f = let t = split (ltb 0 number) (leb number 13) (f .numbered) in (ltb→lt 0 number (t .0), leb→le number 13 (t .1))
+    where
+      split : (a b : Bool) → T (a && b) → T a × T b
+      split true b t = (tt, t)
+      split false b t = absurd t

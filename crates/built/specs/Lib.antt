@@ -1,0 +1,4 @@
+pub mod Build
+pub mod theory
+pub mod Theorems
+pub mod Examples
