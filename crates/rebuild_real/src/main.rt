@@ -1,6 +1,7 @@
 // Rebuilds the almanac of thirty years of real series, the suis 1995 to 2024, by one new thing at a time: what an argument names is the words of a corrected segment (0 for
 // the Sun or 1 for the Moon, the segment's number, 14 coefficients) or of a leap entry (day, offset). Prints whether the new file is the fresh build's, byte for byte, then
 // what the rebuild program prints. At last the old file is damaged. What it must print comes from an independent rebuild (tests/rebuild_cases.py).
+use alike::inner::same_bytes;
 use almanac::WriteAnswer;
 use build_run::inner::file_room;
 use build_run::inner::print_refusal;
@@ -36,21 +37,6 @@ fn copy_words(from: &[i64], to: &mut [i64]) {
     }
 }
 
-// Whether two rooms hold the same bytes.
-fn same(a: &[u8], b: &[u8]) -> bool {
-    if a.len() != b.len() {
-        return false;
-    }
-    let mut i = 0;
-    while i < a.len() {
-        if a[i] != b[i] {
-            return false;
-        }
-        i += 1;
-    }
-    true
-}
-
 // Says whether what is rebuilt is what is built fresh.
 fn print_fresh(old: &[u8], oldwords: &[i64], oldbytes: usize, words: &[i64], bytes: usize) {
     let mut file = file_room();
@@ -58,7 +44,7 @@ fn print_fresh(old: &[u8], oldwords: &[i64], oldbytes: usize, words: &[i64], byt
     rebuilding::rebuild_taken(old, oldwords, oldbytes, words, bytes, &mut file, &mut years);
     let mut fresh = file_room();
     building::build_taken(words, bytes, &mut fresh);
-    if !same(&file, &fresh) {
+    if !same_bytes(&file, &fresh) {
         io::write_all(libc::STDOUT_FILENO, b"not ");
     }
     io::write_all(libc::STDOUT_FILENO, b"as built fresh\n");
@@ -69,28 +55,26 @@ fn print_case(old: &[u8], oldwords: &[i64], oldbytes: usize, words: &[i64], byte
     print_rebuilt(old, oldwords, oldbytes, words, bytes, libc::STDOUT_FILENO);
 }
 
+// The coefficients of a corrected segment.
+fn corrected_part(change: &[i64]) -> [i64; 14]
+    requires { ⌜ length (now change) ≡ 16 ⌝ }
+{
+    let mut part: [i64; 14] = [0; 14];
+    let mut i: usize = 0;
+    while i < 14 {
+        part[i] = change[2 + i];
+        i += 1;
+    }
+    part
+}
+
 // Replaces a segment: 346 of the Sun stand from word 61 on, behind their start, and 2,760 of the Moon from word 4,907 on.
 fn correct(change: &[i64], words: &mut [i64]) -> Check
     requires { ⌜ length (now change) ≡ 16 ⌝ }
     requires { ⌜ length (now words) ≡ 252135 ⌝ }
 {
     let number = whole::absolute(change[1]) as usize;
-    let part = [
-        change[2],
-        change[3],
-        change[4],
-        change[5],
-        change[6],
-        change[7],
-        change[8],
-        change[9],
-        change[10],
-        change[11],
-        change[12],
-        change[13],
-        change[14],
-        change[15],
-    ];
+    let part = corrected_part(change);
     if change[0] == 0 {
         let start = Second(words[60]);
         return replace_segment(Body::Sun, start, &mut words[61..4905], number, part);

@@ -5,7 +5,8 @@ use mathlib.Core.List.{List, [], _++_, append-assoc, append-nil}
 use Prim.Native.Nat.{ℕ, _+_, _≤_}
 use native.Mathlib.Omega.{arith}
 use lib.ListN.{length, take, drop, length-append, length-drop, take-append-drop}
-use lib.Seq.{take-at, drop-at, drop-drop, length-take-le}
+use lib.Seq.{take-at, drop-at, drop-drop, drop-append-le, length-take-le}
+use borrow.Rule.Slice.PartMut.{midOf, postOf, putMid}
 
 -- l with `part` from `at` on
 abbrev pub placed : {A : Type 0} → ℕ → List A → List A → List A
@@ -46,3 +47,16 @@ module _ {A : Type 0} (l first : List A) (at : ℕ) where
           ∙ ap (drop (length second)) (drop-placed (omega arith))
           ∙ drop-drop (length second) (at + length first) l
           ∙ ap (λ (n : ℕ). drop n l) total
+
+-- a part of a list whose front is replaced, put back, is that front placed in the list
+pub put-back : {A : Type 0} (ws part : List A) (a k m : ℕ) → length part ≡ m → m ≤ length (midOf a k ws) → putMid a k ws (part ++ drop m (midOf a k ws)) ≡ placed a part ws
+put-back {A} ws part a k m size fits =
+    ap (λ (l : List A). take a ws ++ l) (append-assoc part (drop m (midOf a k ws)) (postOf a k ws) ∙ ap (λ (l : List A). part ++ l) behind)
+    ∙ sym (append-assoc (take a ws) part (drop (a + length part) ws))
+  where
+    behind : drop m (midOf a k ws) ++ postOf a k ws ≡ drop (a + length part) ws
+    behind =
+        sym (drop-append-le m (midOf a k ws) (postOf a k ws) fits)
+        ∙ ap (drop m) (take-append-drop k (drop a ws))
+        ∙ drop-drop m a ws
+        ∙ ap (λ (n : ℕ). drop (a + n) ws) (sym size)

@@ -1,4 +1,4 @@
--- What is put where: a part of a list whose front is replaced, and the promises of putting a sui again, case by case. Assumes nothing.
+-- What is put where: one word, and the promises of putting a sui again, case by case. Assumes nothing.
 use mathlib.Core.Path.{_≡_, refl, sym, ap, _∙_}
 use mathlib.Core.Bool.{Bool, true, false, cond}
 use mathlib.Core.List.{List, [], _∷_, _++_, append-assoc}
@@ -18,19 +18,6 @@ use Rattle.build.specs.theory.Put.{yearWords, sui-months}
 use Rattle.kept_or_made.specs.declared.inner.years.Again.{Again}
 use Rattle.rebuilt.specs.Rebuild.{daysWords}
 use Rattle.kept_or_made.specs.Again.{againCount, againMonths, putAnswered, monthsAtPlace, yearCount, yearMonths, yearListed, yearAgain}
-
--- a part of a list whose front is replaced, put back, is that front placed in the list
-pub put-back : (ws part : List ℤ) (a k m : ℕ) → length part ≡ m → m ≤ length (midOf a k ws) → putMid a k ws (part ++ drop m (midOf a k ws)) ≡ placed a part ws
-put-back ws part a k m size fits =
-    ap (λ (l : List ℤ). take a ws ++ l) (append-assoc part (drop m (midOf a k ws)) (postOf a k ws) ∙ ap (λ (l : List ℤ). part ++ l) behind)
-    ∙ sym (append-assoc (take a ws) part (drop (a + length part) ws))
-  where
-    behind : drop m (midOf a k ws) ++ postOf a k ws ≡ drop (a + length part) ws
-    behind =
-        sym (drop-append-le m (midOf a k ws) (postOf a k ws) fits)
-        ∙ ap (drop m) (take-append-drop k (drop a ws))
-        ∙ drop-drop m a ws
-        ∙ ap (λ (n : ℕ). drop (a + n) ws) (sym size)
 
 -- one word put
 pub one-put : (l : List ℤ) (at : ℕ) (z : ℤ) → at < length l → set l at z ≡ placed at (z ∷ []) l

@@ -7,7 +7,7 @@ use lib.IntN.{ℤ}
 use lib.ListN.{length, take, drop, take-append-drop, length-drop}
 use lib.Seq.{drop-append-le, drop-drop}
 use borrow.Rule.Slice.PartMut.{midOf, postOf, putMid, mid-len}
-use Rattle.whole.specs.Lists.{placed}
+use Rattle.whole.specs.Lists.{put-back}
 use Rattle.words.specs.Words.{words, words-length}
 use Rattle.pieces.specs.theory.Cases.{too-long, inside-a-word, kept}
 use borrow.Author.Needs.{needs}
@@ -16,19 +16,6 @@ use Rattle.pieces.proofs.inner.take.Tie as tie
 use Rattle.pieces.proofs.inner.take.Reads as reads
 use Rattle.pieces.proofs.inner.take.Lts as lts
 use Rattle.words.proofs.inner.read_words.Reads as read-words-reads
-
--- a part of a list whose front is replaced, put back, is that front placed in the list
-put-back : (ws part : List ℤ) (a k m : ℕ) → length part ≡ m → m ≤ length (midOf a k ws) → putMid a k ws (part ++ drop m (midOf a k ws)) ≡ placed a part ws
-put-back ws part a k m size fits =
-    ap (λ (l : List ℤ). take a ws ++ l) (append-assoc part (drop m (midOf a k ws)) (postOf a k ws) ∙ ap (λ (l : List ℤ). part ++ l) behind)
-    ∙ sym (append-assoc (take a ws) part (drop (a + length part) ws))
-  where
-    behind : drop m (midOf a k ws) ++ postOf a k ws ≡ drop (a + length part) ws
-    behind =
-        sym (drop-append-le m (midOf a k ws) (postOf a k ws) fits)
-        ∙ ap (drop m) (take-append-drop k (drop a ws))
-        ∙ drop-drop m a ws
-        ∙ ap (λ (n : ℕ). drop (a + n) ws) (sym size)
 
 add-bytes : tie.Need-add-bytes
 add-bytes c = search needs

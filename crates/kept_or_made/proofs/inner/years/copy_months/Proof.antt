@@ -9,7 +9,7 @@ use Rattle.almanac.specs.Fields.{times}
 use Rattle.almanac.specs.Layout.{monthFields}
 use Rattle.almanac.specs.theory.FieldLaws.{numbers-length, length-times}
 use Rattle.kept_or_made.specs.Again.{monthsAtPlace}
-use Rattle.kept_or_made.specs.theory.Putting.{put-back}
+use Rattle.whole.specs.Lists.{put-back}
 use Rattle.kept_or_made.proofs.inner.years.copy_months.Statement.{statement}
 use Rattle.kept_or_made.proofs.inner.years.copy_months.Tie as tie
 use Rattle.kept_or_made.proofs.inner.years.copy_months.Reads as reads
