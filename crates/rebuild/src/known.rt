@@ -2,9 +2,6 @@
 use super::new::rebuild_new;
 use super::old::gives;
 use build::inner::ahead::find_ahead;
-use build::inner::ahead::newmoon_days;
-use build::inner::ahead::solstice_days;
-use build::inner::ahead::zhongqi_days;
 use kept_or_made::inner::days::keep_days;
 use rebuilt::RebuildAnswer;
 use series::Body;
@@ -150,9 +147,10 @@ fn rebuild_begun(
     ensures { λ r. ⌜ now (file .exit) ≡ writtenInto (rebuiltOver (inputs (now (oldleap .entry)) (oldsunstart .0) (now (oldsun .entry)) (oldmoonstart .0) (now (oldmoon .entry))) (inputs (now (leap .entry)) (sunstart .0) (now (sun .entry)) (moonstart .0) (now (moon .entry))) zone (now (old .entry)) first n (length (now (file .entry))) (length (now (years .entry)))) new-bytes (now (file .entry)) ⌝ }
     ensures { λ r. ⌜ now (years .exit) ≡ writtenInto (rebuiltOver (inputs (now (oldleap .entry)) (oldsunstart .0) (now (oldsun .entry)) (oldmoonstart .0) (now (oldmoon .entry))) (inputs (now (leap .entry)) (sunstart .0) (now (sun .entry)) (moonstart .0) (now (moon .entry))) zone (now (old .entry)) first n (length (now (file .entry))) (length (now (years .entry)))) kept-years (now (years .entry)) ⌝ }
 {
-    let mut solstices = solstice_days();
-    let mut newmoons = newmoon_days();
-    let mut zhongqi = zhongqi_days();
+    // rooms for the days ahead of 128 suis, as `build::inner::ahead::build_at` has them
+    let mut solstices: [i64; 130] = [first; 130];
+    let mut newmoons: [i64; 1666] = [first; 1666];
+    let mut zhongqi: [i64; 1664] = [first; 1664];
     let found = find_ahead(
         oldleap,
         oldsunstart,

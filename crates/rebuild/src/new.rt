@@ -1,8 +1,5 @@
 // The new side: the new inputs are judged by what changed, their days ahead are found where they can have moved, and the file is written.
 use super::writing::rebuild_from;
-use build::inner::ahead::newmoon_days;
-use build::inner::ahead::solstice_days;
-use build::inner::ahead::zhongqi_days;
 use corrected::inner::Changed;
 use corrected::inner::changed_segments;
 use corrected::inner::judge_again;
@@ -68,9 +65,10 @@ fn rebuild_at(
     ensures { λ r. ⌜ now (file .exit) ≡ writtenInto (newFileBy (bytesOfYears (inputs (now (leap .entry)) (sunstart .0) (now (sun .entry)) (moonstart .0) (now (moon .entry))) zone first n (length (now (file .entry)))) (listedAgain (inputs (now (leap .entry)) (sunstart .0) (now (sun .entry)) (moonstart .0) (now (moon .entry))) zone first (now (before .entry)) n) (length (now (years .entry)))) new-bytes (now (file .entry)) ⌝ }
     ensures { λ r. ⌜ now (years .exit) ≡ writtenInto (newFileBy (bytesOfYears (inputs (now (leap .entry)) (sunstart .0) (now (sun .entry)) (moonstart .0) (now (moon .entry))) zone first n (length (now (file .entry)))) (listedAgain (inputs (now (leap .entry)) (sunstart .0) (now (sun .entry)) (moonstart .0) (now (moon .entry))) zone first (now (before .entry)) n) (length (now (years .entry)))) kept-years (now (years .entry)) ⌝ }
 {
-    let mut solstices = solstice_days();
-    let mut newmoons = newmoon_days();
-    let mut zhongqi = zhongqi_days();
+    // rooms for the days ahead of 128 suis, as `build::inner::ahead::build_at` has them
+    let mut solstices: [i64; 130] = [first; 130];
+    let mut newmoons: [i64; 1666] = [first; 1666];
+    let mut zhongqi: [i64; 1664] = [first; 1664];
     let found = find_again(
         oldleap,
         oldsunstart,

@@ -19,27 +19,7 @@ ghost use Rattle.almanac.specs.Answers.{paperWritten, bytesCounted, all-bytes};
 ghost use Rattle.built.specs.Build.{bytesOfYears};
 ghost use Rattle.build.specs.theory.Walk.{Begins, Walks};
 
-// Room for the days ahead of 128 suis: a solstice each and two more, thirteen new moons each and two more.
-pub fn solstice_days() -> [i64; 130]
-    ensures { λ r. ⌜ 130 ≡ length r ⌝ }
-{
-    [0; 130]
-}
-
-pub fn newmoon_days() -> [i64; 1666]
-    ensures { λ r. ⌜ 1666 ≡ length r ⌝ }
-{
-    [0; 1666]
-}
-
-// Thirteen zhongqi each.
-pub fn zhongqi_days() -> [i64; 1664]
-    ensures { λ r. ⌜ 1664 ≡ length r ⌝ }
-{
-    [0; 1664]
-}
-
-// Room for their records: two words a sui.
+// Room for the records of 128 suis, two words each.
 fn sui_words() -> [i64; 256]
     ensures { λ r. ⌜ 256 ≡ length r ⌝ }
 {
@@ -186,9 +166,11 @@ pub fn build_at(
     ensures { λ r. ⌜ paperWritten r ≡ bytesCounted (bytesOfYears (inputs (now (leap .entry)) (sunstart .0) (now (sun .entry)) (moonstart .0) (now (moon .entry))) zone first n (length (now (file .entry)))) ⌝ }
     ensures { λ r. ⌜ now (file .exit) ≡ writtenInto (bytesOfYears (inputs (now (leap .entry)) (sunstart .0) (now (sun .entry)) (moonstart .0) (now (moon .entry))) zone first n (length (now (file .entry)))) all-bytes (now (file .entry)) ⌝ }
 {
-    let mut solstices = solstice_days();
-    let mut newmoons = newmoon_days();
-    let mut zhongqi = zhongqi_days();
+    // Rooms for the days ahead of 128 suis: a solstice each and two more, thirteen new moons each and two more, thirteen zhongqi each. They are stored word by word where
+    // they stand (`build_from` says why).
+    let mut solstices: [i64; 130] = [first; 130];
+    let mut newmoons: [i64; 1666] = [first; 1666];
+    let mut zhongqi: [i64; 1664] = [first; 1664];
     let found = find_ahead(
         leap,
         sunstart,

@@ -1,6 +1,7 @@
 -- `rebuild::known::rebuild_begun` meets its contract. In the needs, `start` is the function's entry. Assumes nothing.
 use mathlib.Core.Path.{sym}
 use native.Mathlib.Omega.{arith}
+use lib.ListN.{length-replicate}
 use lib.Seq.{length-take-le}
 use mir.Facts.{toZ-ofZ}
 use borrow.Author.Needs.{needs}
@@ -8,20 +9,14 @@ use Rattle.rebuild.proofs.known.rebuild_begun.Statement.{statement}
 use Rattle.rebuild.proofs.known.rebuild_begun.Tie as tie
 use Rattle.rebuild.proofs.known.rebuild_begun.Reads as reads
 use Rattle.rebuild.proofs.known.rebuild_begun.Lts as lts
-use Rattle.build.proofs.inner.ahead.newmoon_days.Reads as newmoon-days-reads
-use Rattle.build.proofs.inner.ahead.solstice_days.Reads as solstice-days-reads
-use Rattle.build.proofs.inner.ahead.zhongqi_days.Reads as zhongqi-days-reads
 use Rattle.build.proofs.inner.ahead.find_ahead.Reads as find-ahead-reads
 use Rattle.rebuild.proofs.known.rebuild_found.Reads as rebuild-found-reads
 
-solstice-days-requires : tie.Need-solstice-days-requires
-solstice-days-requires c κs = search needs
+abbrev Found : Type 0
+Found = tie.After-find-ahead
 
-newmoon-days-requires : tie.Need-newmoon-days-requires
-newmoon-days-requires c κs = search needs
-
-zhongqi-days-requires : tie.Need-zhongqi-days-requires
-zhongqi-days-requires c κs = search needs
+abbrev start-of : Found → tie.Start
+start-of c = c .before .before .before .before .before .before
 
 slice-aggregate-find-ahead : tie.Need-slice-aggregate-find-ahead
 slice-aggregate-find-ahead c = search needs
@@ -34,21 +29,21 @@ slice-aggregate-find-ahead-3 c = search needs
 
 find-ahead-requires : tie.Need-find-ahead-requires
 find-ahead-requires c κs =
-    let start = c .before .before .before .before .before .before .before .before in
+    let start = c .before .before .before .before .before in
     let few = start .pre .few-years in
-    rw (toZ-ofZ (start .fits .zone), toZ-ofZ (start .fits .first)) (start .pre, (omega (arith, c .before .before .before .before .before .solstice-days .ensures), (omega (arith, c .before .before .before .before .newmoon-days .ensures), omega (arith, c .before .before .before .zhongqi-days .ensures))))
+    rw (toZ-ofZ (start .fits .zone), toZ-ofZ (start .fits .first)) (start .pre, (rw (length-replicate 130 (start .args .first)) (omega arith), (rw (length-replicate 1666 (start .args .first)) (omega arith), rw (length-replicate 1664 (start .args .first)) (omega arith))))
 
 array-share-prefix-solstices : tie.Need-array-share-prefix-solstices
 array-share-prefix-solstices c = search needs
 
 slice-aggregate-rebuild-found : tie.Need-slice-aggregate-rebuild-found
-slice-aggregate-rebuild-found c = sym (length-take-le _ _ (omega (arith, c .before .before .before .before .find-ahead .ensures .0 .0, c .before .before .before .before .before .before .before .before .before .before .before .before .before .pre .few-years)))
+slice-aggregate-rebuild-found c = sym (length-take-le _ _ (omega (arith, c .before .before .before .before .find-ahead .ensures .0 .0, start-of (c .before .before .before .before) .pre .few-years)))
 
 array-share-prefix-newmoons : tie.Need-array-share-prefix-newmoons
 array-share-prefix-newmoons c = search needs
 
 slice-aggregate-rebuild-found-2 : tie.Need-slice-aggregate-rebuild-found-2
-slice-aggregate-rebuild-found-2 c = sym (length-take-le _ _ (omega (arith, c .before .before .before .before .before .find-ahead .ensures .0 .1, c .before .before .before .before .before .before .before .before .before .before .before .before .before .before .pre .few-years)))
+slice-aggregate-rebuild-found-2 c = sym (length-take-le _ _ (omega (arith, c .before .before .before .before .before .find-ahead .ensures .0 .1, start-of (c .before .before .before .before .before) .pre .few-years)))
 
 slice-aggregate-rebuild-found-3 : tie.Need-slice-aggregate-rebuild-found-3
 slice-aggregate-rebuild-found-3 c = search needs
@@ -65,16 +60,13 @@ same-length-2 c = search needs
 returns : tie.Need-returns
 returns c =
     let made = c .before .before .before in
-    let start = c .before .before .before .before .before .before .before .before .before .before .before .before .before .before .before .before .before .before .before .before .before in
+    let start = start-of (made .before .before .before .before .before .before .before .before .before) in
     rw (toZ-ofZ (start .fits .zone), toZ-ofZ (start .fits .first)) at (made .rebuild-found .ensures)
 
 pub rebuild-begun-spec : {M : Type 1} → statement M
 rebuild-begun-spec =
     tie.close
     (tie.spec
-    solstice-days-requires
-    newmoon-days-requires
-    zhongqi-days-requires
     slice-aggregate-find-ahead
     slice-aggregate-find-ahead-2
     slice-aggregate-find-ahead-3

@@ -1,6 +1,7 @@
 -- `build::inner::ahead::build_at` meets its contract. In the needs, `start` is the function's entry. Assumes nothing.
 use mathlib.Core.Path.{sym}
 use native.Mathlib.Omega.{arith}
+use lib.ListN.{length-replicate}
 use lib.Seq.{length-take-le}
 use mir.Facts.{toZ-ofZ}
 use borrow.Author.Needs.{needs}
@@ -10,20 +11,14 @@ use Rattle.build.proofs.inner.ahead.build_at.Reads as reads
 use Rattle.build.proofs.inner.ahead.build_at.Lts as lts
 use Rattle.build.proofs.inner.ahead.build_from.Reads as build-from-reads
 use Rattle.build.proofs.inner.ahead.find_ahead.Reads as find-ahead-reads
-use Rattle.build.proofs.inner.ahead.newmoon_days.Reads as newmoon-days-reads
-use Rattle.build.proofs.inner.ahead.solstice_days.Reads as solstice-days-reads
-use Rattle.build.proofs.inner.ahead.zhongqi_days.Reads as zhongqi-days-reads
+
+abbrev Found : Type 0
+Found = tie.After-find-ahead
+
+abbrev start-of : Found → tie.Start
+start-of c = c .before .before .before .before .before
 
 -- ---- the needs
-
-solstice-days-requires : tie.Need-solstice-days-requires
-solstice-days-requires c κs = search needs
-
-newmoon-days-requires : tie.Need-newmoon-days-requires
-newmoon-days-requires c κs = search needs
-
-zhongqi-days-requires : tie.Need-zhongqi-days-requires
-zhongqi-days-requires c κs = search needs
 
 slice-aggregate-find-ahead : tie.Need-slice-aggregate-find-ahead
 slice-aggregate-find-ahead c = search needs
@@ -36,21 +31,21 @@ slice-aggregate-find-ahead-3 c = search needs
 
 find-ahead-requires : tie.Need-find-ahead-requires
 find-ahead-requires c κs =
-    let start = c .before .before .before .before .before .before .before in
+    let start = c .before .before .before .before in
     let few = start .pre .few-years in
-    rw (toZ-ofZ (start .fits .zone), toZ-ofZ (start .fits .first)) (start .pre, (omega (arith, c .before .before .before .before .before .solstice-days .ensures), (omega (arith, c .before .before .before .before .newmoon-days .ensures), omega (arith, c .before .before .before .zhongqi-days .ensures))))
+    rw (toZ-ofZ (start .fits .zone), toZ-ofZ (start .fits .first)) (start .pre, (rw (length-replicate 130 (start .args .first)) (omega arith), (rw (length-replicate 1666 (start .args .first)) (omega arith), rw (length-replicate 1664 (start .args .first)) (omega arith))))
 
 array-share-prefix-solstices : tie.Need-array-share-prefix-solstices
 array-share-prefix-solstices c = search needs
 
 slice-aggregate-build-from : tie.Need-slice-aggregate-build-from
-slice-aggregate-build-from c = sym (length-take-le _ _ (omega (arith, c .before .before .before .before .find-ahead .ensures .0 .0, c .before .before .before .before .before .before .before .before .before .before .before .before .pre .few-years)))
+slice-aggregate-build-from c = sym (length-take-le _ _ (omega (arith, c .before .before .before .before .find-ahead .ensures .0 .0, start-of (c .before .before .before .before) .pre .few-years)))
 
 array-share-prefix-newmoons : tie.Need-array-share-prefix-newmoons
 array-share-prefix-newmoons c = search needs
 
 slice-aggregate-build-from-2 : tie.Need-slice-aggregate-build-from-2
-slice-aggregate-build-from-2 c = sym (length-take-le _ _ (omega (arith, c .before .before .before .before .before .find-ahead .ensures .0 .1, c .before .before .before .before .before .before .before .before .before .before .before .before .before .pre .few-years)))
+slice-aggregate-build-from-2 c = sym (length-take-le _ _ (omega (arith, c .before .before .before .before .before .find-ahead .ensures .0 .1, start-of (c .before .before .before .before .before) .pre .few-years)))
 
 slice-aggregate-build-from-3 : tie.Need-slice-aggregate-build-from-3
 slice-aggregate-build-from-3 c = search needs
@@ -64,16 +59,13 @@ same-length c = search needs
 returns : tie.Need-returns
 returns c =
     let built = c .before .before in
-    let start = built .before .before .before .before .before .before .before .before .before .before .before .before .before .before .before .before in
+    let start = start-of (built .before .before .before .before .before .before .before .before) in
     rw (toZ-ofZ (start .fits .zone), toZ-ofZ (start .fits .first)) at (built .build-from .ensures)
 
 pub build-at-spec : {M : Type 1} → statement M
 build-at-spec =
     tie.close
     (tie.spec
-    solstice-days-requires
-    newmoon-days-requires
-    zhongqi-days-requires
     slice-aggregate-find-ahead
     slice-aggregate-find-ahead-2
     slice-aggregate-find-ahead-3
