@@ -1,16 +1,6 @@
-// The almanac file: checked, read and written (document 01, "Almanac file").
+// The almanac file as records, and on paper (`specs/`): the bytes of a content, which files are read, with examples and theorems (document 01, "Almanac file").
+// Nothing here runs: the functions are those of `reader` and `writer`.
 use refusals::Refusal;
-ghost use mathlib.Core.Path.{_≡_};
-ghost use lib.ListN.{length};
-ghost use Rattle.refusals.specs.Lent.{writtenInto};
-ghost use Rattle.content.specs.Content.{content, leap-words, sui-words, month-words};
-ghost use Rattle.almanac.specs.Answers.{paperFile, paperWritten, checkedFile, contentRead, readFile, bytesToWrite, all-bytes, writtenFile};
-
-mod checking;
-pub mod inner;
-mod layout;
-mod reading;
-mod writing;
 
 // How many leap entries, suis and months a file has.
 pub struct Counts {
@@ -27,52 +17,4 @@ pub enum FileAnswer {
 pub enum WriteAnswer {
     Written(usize),
     Refused(Refusal),
-}
-
-// Checks a whole file: how many leap entries, suis and months it has; 13 unless it is a lawful one.
-pub fn check_file(file: &[u8]) -> FileAnswer
-    ensures { λ r. ⌜ paperFile r ≡ checkedFile (now (file .entry)) ⌝ }
-{
-    let counted = layout::counts_of(file);
-    match counted {
-        FileAnswer::Refused(r) => FileAnswer::Refused(r),
-        FileAnswer::File(n) => {
-            if checking::lawful_at(file, n) {
-                FileAnswer::File(n)
-            } else {
-                FileAnswer::Refused(refusals::LAYOUT)
-            }
-        }
-    }
-}
-
-// Reads a file into lent words: two for each leap entry, two for each sui, three for each month; 13 unless it is a lawful one, then 12 where a list does not fit.
-pub fn read_file(file: &[u8], leap: &mut [i64], suis: &mut [i64], months: &mut [i64]) -> FileAnswer
-    ensures { λ r. ⌜ paperFile r ≡ readFile (now (file .entry)) (length (now (leap .entry))) (length (now (suis .entry))) (length (now (months .entry))) ⌝ }
-    ensures { λ r. ⌜ now (leap .exit) ≡ writtenInto (contentRead (now (file .entry)) (length (now (leap .entry))) (length (now (suis .entry))) (length (now (months .entry)))) leap-words (now (leap .entry)) ⌝ }
-    ensures { λ r. ⌜ now (suis .exit) ≡ writtenInto (contentRead (now (file .entry)) (length (now (leap .entry))) (length (now (suis .entry))) (length (now (months .entry)))) sui-words (now (suis .entry)) ⌝ }
-    ensures { λ r. ⌜ now (months .exit) ≡ writtenInto (contentRead (now (file .entry)) (length (now (leap .entry))) (length (now (suis .entry))) (length (now (months .entry)))) month-words (now (months .entry)) ⌝ }
-{
-    let checked = check_file(file);
-    match checked {
-        FileAnswer::Refused(r) => FileAnswer::Refused(r),
-        FileAnswer::File(n) => {
-            if reading::too_short(n, leap.len(), suis.len(), months.len()) {
-                return FileAnswer::Refused(refusals::ROOM);
-            }
-            reading::read_all(file, n, leap, suis, months);
-            FileAnswer::File(n)
-        }
-    }
-}
-
-// Writes a content into a lent file and says how many bytes it took; 13 unless the content is lawful, then 12 where the file is too short.
-pub fn write_file(leap: &[i64], suis: &[i64], months: &[i64], file: &mut [u8]) -> WriteAnswer
-    ensures { λ r. ⌜ paperWritten r ≡ writtenFile (content (now (leap .entry)) (now (suis .entry)) (now (months .entry))) (length (now (file .entry))) ⌝ }
-    ensures { λ r. ⌜ now (file .exit) ≡ writtenInto (bytesToWrite (content (now (leap .entry)) (now (suis .entry)) (now (months .entry))) (length (now (file .entry)))) all-bytes (now (file .entry)) ⌝ }
-{
-    if !content::inner::is_lawful(leap, suis, months) {
-        return WriteAnswer::Refused(refusals::LAYOUT);
-    }
-    inner::write_lawful(leap, suis, months, file)
 }

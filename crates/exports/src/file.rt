@@ -18,7 +18,7 @@ pub extern "C" fn hzk_check_file(file: &[u8], answer: &mut [i64; 9]) -> i64
     ensures { λ r. ⌜ r ≡ numberOf (checkedFile (now (file .entry))) ⌝ }
     ensures { λ r. ⌜ now (answer .exit) ≡ recordOf (checkedFile (now (file .entry))) fileNumbers ⌝ }
 {
-    record::tell(record::file_record(almanac::check_file(file)), answer)
+    record::tell(record::file_record(reader::check_file(file)), answer)
 }
 
 // Reads a file into lent words.
@@ -36,7 +36,7 @@ pub extern "C" fn hzk_read_file(
     ensures { λ r. ⌜ now (suis .exit) ≡ writtenInto (contentRead (now (file .entry)) (length (now (leap .entry))) (length (now (suis .entry))) (length (now (months .entry)))) sui-words (now (suis .entry)) ⌝ }
     ensures { λ r. ⌜ now (months .exit) ≡ writtenInto (contentRead (now (file .entry)) (length (now (leap .entry))) (length (now (suis .entry))) (length (now (months .entry)))) month-words (now (months .entry)) ⌝ }
 {
-    let read = almanac::read_file(file, leap, suis, months);
+    let read = reader::read_file(file, leap, suis, months);
     record::tell(record::file_record(read), answer)
 }
 
@@ -53,7 +53,7 @@ pub extern "C" fn hzk_write_file(
     ensures { λ r. ⌜ now (answer .exit) ≡ recordOf (writtenFile (content (now (leap .entry)) (now (suis .entry)) (now (months .entry))) (length (now (file .entry)))) countNumbers ⌝ }
     ensures { λ r. ⌜ now (file .exit) ≡ writtenInto (bytesToWrite (content (now (leap .entry)) (now (suis .entry)) (now (months .entry))) (length (now (file .entry)))) all-bytes (now (file .entry)) ⌝ }
 {
-    let written = almanac::write_file(leap, suis, months, file);
+    let written = writer::write_file(leap, suis, months, file);
     record::tell(record::written_record(written), answer)
 }
 

@@ -16,7 +16,7 @@ pub fn list_years(file: &[u8], years: &[i64], out: &mut [u8]) -> WriteAnswer
     ensures { λ r. ⌜ paperWritten r ≡ bytesCounted (linesListed (now (file .entry)) (now (years .entry)) (length (now (out .entry)))) ⌝ }
     ensures { λ r. ⌜ now (out .exit) ≡ writtenInto (linesListed (now (file .entry)) (now (years .entry)) (length (now (out .entry)))) all-bytes (now (out .entry)) ⌝ }
 {
-    let checked = almanac::check_file(file);
+    let checked = reader::check_file(file);
     match checked {
         FileAnswer::Refused(r) => WriteAnswer::Refused(r),
         FileAnswer::File(n) => putting::put_suis(file, n, years, out),

@@ -2,8 +2,8 @@
 use alike::inner::same_bytes;
 use almanac::FileAnswer;
 use almanac::WriteAnswer;
-use almanac::check_file;
 use build::inner::ahead::build_from;
+use reader::check_file;
 use refusals::Refusal;
 use suis::inner::Places;
 use times::Second;

@@ -1,6 +1,5 @@
 // The new file and the years, by the days ahead: everything is judged before the first byte or year is written.
 use almanac::WriteAnswer;
-use almanac::inner::write_lawful;
 use kept_or_made::inner::days::put_words;
 use kept_or_made::inner::walk::put_years_again;
 use kept_or_made::inner::years::AgainAnswer;
@@ -9,6 +8,7 @@ use rebuilt::Rebuilt;
 use suis::inner::Places;
 use times::Second;
 use turns::inner::TurnList;
+use writer::inner::write_lawful;
 ghost use mathlib.Core.Path.{_≡_};
 ghost use lib.ListN.{length};
 ghost use Rattle.refusals.specs.Lent.{writtenInto};

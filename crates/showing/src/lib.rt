@@ -41,7 +41,7 @@ pub fn show(file: &[u8], out: &mut [u8]) -> ShowAnswer
     let mut leap = entry_words();
     let mut suis = sui_words();
     let mut words = month_words();
-    let read = almanac::read_file(file, &mut leap, &mut suis, &mut words);
+    let read = reader::read_file(file, &mut leap, &mut suis, &mut words);
     match read {
         FileAnswer::Refused(r) => ShowAnswer::Refused(r),
         FileAnswer::File(n) => putting::show_months(&words[..3 * n.months], out),

@@ -1,8 +1,7 @@
 // The days of solstices, new moons and zhongqi that n suis need, found once and kept; and the records of the suis, kept until they are written.
+use almanac::WriteAnswer;
 use crate::years::YearsAnswer;
 use crate::years::put_years;
-use almanac::WriteAnswer;
-use almanac::inner::write_lawful;
 use series::Body;
 use suis::inner::Places;
 use suis::inner::days_ahead;
@@ -10,6 +9,7 @@ use suis::inner::fewer;
 use suis::inner::zhongqi_ahead;
 use times::Second;
 use turns::inner::TurnList;
+use writer::inner::write_lawful;
 ghost use mathlib.Core.Path.{_≡_};
 ghost use Prim.Native.Nat.{_+_, _*_, _≤_, _<_};
 ghost use lib.ListN.{length, take};

@@ -2,10 +2,10 @@
 // where they are copied.
 use super::days::days_words;
 use alike::inner::same_words;
-use almanac::inner::read_months;
 use build::inner::records::put_months;
 use build::inner::records::put_sui;
 use months::SuiDays;
+use reader::inner::read_months;
 use refusals::Check;
 use refusals::Refusal;
 use suis::inner::days_after;

@@ -10,7 +10,7 @@ use Rattle.kept_years.proofs.list_years.Statement.{statement}
 use Rattle.kept_years.proofs.list_years.Tie as tie
 use Rattle.kept_years.proofs.list_years.Reads as reads
 use Rattle.kept_years.proofs.list_years.Lts as lts
-use Rattle.almanac.proofs.check_file.Reads as check-file-reads
+use Rattle.reader.proofs.check_file.Reads as check-file-reads
 use Rattle.kept_years.proofs.putting.put_suis.Reads as put-suis-reads
 
 -- what is known of the file once its counts are told

@@ -28,7 +28,7 @@ use Rattle.rebuild.proofs.writing.rebuild_from.Statement.{statement}
 use Rattle.rebuild.proofs.writing.rebuild_from.Tie as tie
 use Rattle.rebuild.proofs.writing.rebuild_from.Reads as reads
 use Rattle.rebuild.proofs.writing.rebuild_from.Lts as lts
-use Rattle.almanac.proofs.inner.write_lawful.Reads as write-lawful-reads
+use Rattle.writer.proofs.inner.write_lawful.Reads as write-lawful-reads
 use Rattle.kept_or_made.proofs.inner.days.put_words.Reads as put-words-reads
 use Rattle.kept_or_made.proofs.inner.walk.put_years_again.Reads as put-years-again-reads
 use Rattle.rebuild.proofs.writing.sui_words.Reads as sui-words-reads

@@ -19,7 +19,7 @@ use Rattle.build.proofs.inner.ahead.build_from.Statement.{statement}
 use Rattle.build.proofs.inner.ahead.build_from.Tie as tie
 use Rattle.build.proofs.inner.ahead.build_from.Reads as reads
 use Rattle.build.proofs.inner.ahead.build_from.Lts as lts
-use Rattle.almanac.proofs.inner.write_lawful.Reads as write-lawful-reads
+use Rattle.writer.proofs.inner.write_lawful.Reads as write-lawful-reads
 use Rattle.build.proofs.inner.ahead.sui_words.Reads as sui-words-reads
 use Rattle.build.proofs.years.put_years.Reads as put-years-reads
 

@@ -14,7 +14,7 @@ use Rattle.kept_or_made.proofs.inner.years.copy_months.Statement.{state
 use Rattle.kept_or_made.proofs.inner.years.copy_months.Tie as tie
 use Rattle.kept_or_made.proofs.inner.years.copy_months.Reads as reads
 use Rattle.kept_or_made.proofs.inner.years.copy_months.Lts as lts
-use Rattle.almanac.proofs.inner.read_months.Reads as read-months-reads
+use Rattle.reader.proofs.inner.read_months.Reads as read-months-reads
 
 mul-read-months : tie.Need-mul-read-months
 mul-read-months c = search needs
