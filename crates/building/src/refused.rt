@@ -1,6 +1,6 @@
 // Which of the two series a build refuses by 2 to 5: its number alone does not say.
-use crate::SeriesAnswer;
 use conversion::judge_leap_table;
+use crate::SeriesAnswer;
 use layout::inner::PlacesAnswer;
 use refusals::Check;
 use series::Body;
@@ -26,11 +26,11 @@ fn of_inputs(
     if let Check::Refused(_) = table {
         return SeriesAnswer::Neither;
     }
-    let sun_check = series::accept(Body::Sun, sunstart, sun);
+    let sun_check = acceptance::accept(Body::Sun, sunstart, sun);
     if let Check::Refused(_) = sun_check {
         return SeriesAnswer::Sun;
     }
-    let moon_check = series::accept(Body::Moon, moonstart, moon);
+    let moon_check = acceptance::accept(Body::Moon, moonstart, moon);
     if let Check::Refused(_) = moon_check {
         return SeriesAnswer::Moon;
     }

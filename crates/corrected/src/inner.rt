@@ -6,10 +6,10 @@ use super::judging::end_of;
 use super::judging::judged_part;
 use super::reaching::reached_before;
 use super::reaching::reached_from;
+use acceptance::inner::judging::shape;
 use inputs::inner::any_early;
 use refusals::Check;
 use series::Body;
-use series::inner::judging::shape;
 use times::Second;
 ghost use mathlib.Core.Path.{_≡_};
 ghost use Rattle.refusals.specs.Verdict.{paperCheck};
@@ -43,7 +43,7 @@ pub fn changed_segments(old: &[i64], coefs: &[i64]) -> Changed
     }
 }
 
-// Accepts the new series, or refuses it by 2, 3, 4 or 5, as `series::accept` does, by judging what changed: of the other segments and joints the old series was
+// Accepts the new series, or refuses it by 2, 3, 4 or 5, as `acceptance::accept` does, by judging what changed: of the other segments and joints the old series was
 // accepted.
 pub fn accept_again(
     body: Body,

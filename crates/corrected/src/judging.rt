@@ -1,8 +1,8 @@
 // Judging a part of the segments: those that changed, with one more on each side.
+use acceptance::inner::judging::each_segment;
 use refusals::Check;
 use refusals::Refusal;
 use series::Body;
-use series::inner::judging::each_segment;
 ghost use mathlib.Core.Path.{_≡_};
 ghost use Prim.Native.Nat.{_-_, _^_, _≤_, _<_};
 ghost use Rattle.refusals.specs.Verdict.{paperCheck};

@@ -1,9 +1,9 @@
 // How many marks are reached where a segment of an accepted series begins.
+use acceptance::inner::half_length;
 use finder::inner::first_reached;
 use finder::inner::index_at;
 use finder::inner::last_reached;
 use series::Body;
-use series::inner::half_length;
 use times::Second;
 use whole::inner::add;
 use whole::inner::signed;

@@ -26,7 +26,7 @@ pub extern "C" fn hzk_accept(moon: bool, start: i64, coefs: &[i64], answer: &mut
     ensures { λ r. ⌜ now (answer .exit) ≡ recordOf (seriesJudged (series (bodyOf moon) start (now (coefs .entry)))) noNumbers ⌝ }
 {
     record::tell(
-        record::check_record(series::accept(body_of(moon), Second(start), coefs)),
+        record::check_record(acceptance::accept(body_of(moon), Second(start), coefs)),
         answer,
     )
 }
@@ -44,7 +44,7 @@ pub extern "C" fn hzk_value_at(
     ensures { λ r. ⌜ now (answer .exit) ≡ recordOf (valueOf (series (bodyOf moon) start (now (coefs .entry))) second) valueNumbers ⌝ }
 {
     record::tell(
-        record::value_record(series::value_at(body_of(moon), Second(start), coefs, Second(second))),
+        record::value_record(acceptance::value_at(body_of(moon), Second(start), coefs, Second(second))),
         answer,
     )
 }

@@ -32,7 +32,7 @@ pub fn index_at(body: Body, start: Second, coefs: &[i64], second: Second) -> i64
     requires { ⌜ InSpan (series body (start .0) (now coefs)) (second .0) ⌝ }
     ensures { λ r. ⌜ r ≡ reachedAt (series body (start .0) (now (coefs .entry))) (second .0) ⌝ }
 {
-    let value = series::inner::value(body, start, coefs, second);
+    let value = acceptance::inner::value(body, start, coefs, second);
     match body {
         Body::Sun => whole::inner::floor_div(value, 540000000),
         Body::Moon => whole::inner::floor_div(value, 3240000000),
@@ -52,7 +52,7 @@ pub fn last_reached(body: Body, start: Second, coefs: &[i64]) -> i64
     requires { ⌜ Accepted (series body (start .0) (now coefs)) ⌝ }
     ensures { λ r. ⌜ r ≡ lastReached (series body (start .0) (now (coefs .entry))) ⌝ }
 {
-    let last = series::inner::last_second(body, start, coefs);
+    let last = acceptance::inner::last_second(body, start, coefs);
     index_at(body, start, coefs, last)
 }
 

@@ -55,7 +55,7 @@ fn find(
 pub fn count_marks(body: Body, start: Second, coefs: &[i64]) -> CountAnswer
     ensures { λ r. ⌜ paperCount r ≡ countedMarks (series body (start .0) (now (coefs .entry))) ⌝ }
 {
-    let check = series::accept(body, start, coefs);
+    let check = acceptance::accept(body, start, coefs);
     match check {
         Check::Accepted => CountAnswer::Marks(inner::count(body, start, coefs)),
         Check::Refused(refusal) => CountAnswer::Refused(refusal),
@@ -66,7 +66,7 @@ pub fn count_marks(body: Body, start: Second, coefs: &[i64]) -> CountAnswer
 fn plan(body: Body, start: Second, coefs: &[i64], room: usize) -> ListAnswer
     ensures { λ r. ⌜ paperList r ≡ listedInto (series body (start .0) (now (coefs .entry))) room ⌝ }
 {
-    let check = series::accept(body, start, coefs);
+    let check = acceptance::accept(body, start, coefs);
     if let Check::Refused(refusal) = check {
         return ListAnswer::Refused(refusal);
     }
@@ -86,7 +86,7 @@ pub fn list_marks(body: Body, start: Second, coefs: &[i64], out: &mut [i64]) -> 
     match plan {
         ListAnswer::Refused(refusal) => ListAnswer::Refused(refusal),
         ListAnswer::Marks(count) => {
-            let last = series::inner::last_second(body, start, coefs);
+            let last = acceptance::inner::last_second(body, start, coefs);
             let lowest = inner::first_reached(body, start, coefs);
             let highest = inner::last_reached(body, start, coefs);
             let needed = 2 * count;

@@ -42,14 +42,14 @@ pub fn series_of<'a>(start: Second, coefs: &'a [i64]) -> Series<'a>
 pub fn accept<'a>(body: Body, given: Series<'a>) -> Check
     ensures { λ r. ⌜ paperCheck r ≡ seriesJudged (seriesOf body (given .entry)) ⌝ }
 {
-    series::accept(body, given.start, given.coefs)
+    acceptance::accept(body, given.start, given.coefs)
 }
 
 // The value at a second, or a refusal by 2 to 5, or by 6 outside the span.
 pub fn value_at<'a>(body: Body, given: Series<'a>, second: Second) -> ValueAnswer
     ensures { λ r. ⌜ paperValue r ≡ valueOf (seriesOf body (given .entry)) (second .0) ⌝ }
 {
-    series::value_at(body, given.start, given.coefs, second)
+    acceptance::value_at(body, given.start, given.coefs, second)
 }
 
 // The number of marks of a series.

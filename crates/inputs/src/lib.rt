@@ -17,11 +17,11 @@ pub fn judge(leap: &[i64], sunstart: Second, sun: &[i64], moonstart: Second, moo
     if let Check::Refused(r) = leap_check {
         return Check::Refused(r);
     }
-    let sun_check = series::accept(Body::Sun, sunstart, sun);
+    let sun_check = acceptance::accept(Body::Sun, sunstart, sun);
     if let Check::Refused(r) = sun_check {
         return Check::Refused(r);
     }
-    let moon_check = series::accept(Body::Moon, moonstart, moon);
+    let moon_check = acceptance::accept(Body::Moon, moonstart, moon);
     if let Check::Refused(r) = moon_check {
         return Check::Refused(r);
     }

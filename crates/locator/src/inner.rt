@@ -1,6 +1,6 @@
 // The second of a listed mark by its index, and the k-th listed mark.
-use crate::looks;
 use crate::looks::Looked;
+use crate::looks;
 use finder::inner::first_reached;
 use finder::inner::mark_size;
 use marks::ListedMark;
@@ -60,7 +60,7 @@ pub fn locate_between(
             left,
         );
         let middle = whole::inner::add(from, whole::inner::signed(step));
-        let value = series::inner::value(body, start, coefs, Second(middle));
+        let value = acceptance::inner::value(body, start, coefs, Second(middle));
         if value < target {
             from = middle;
             under = value;
@@ -86,8 +86,8 @@ fn settle(body: Body, start: Second, coefs: &[i64], index: i64, around: Looked) 
     if whole::inner::distance(lo, hi) == 1 {
         return Second(hi);
     }
-    let below = series::inner::value(body, start, coefs, Second(lo));
-    let above = series::inner::value(body, start, coefs, Second(hi));
+    let below = acceptance::inner::value(body, start, coefs, Second(lo));
+    let above = acceptance::inner::value(body, start, coefs, Second(hi));
     locate_between(
         body,
         start,
@@ -150,7 +150,7 @@ pub fn enclose(body: Body, start: Second, coefs: &[i64], index: i64) -> Enclosin
     let target = mark_value(body, index);
     let near = looks::second_for(body, start, coefs, target);
     let at = near.at;
-    let value = series::inner::value(body, start, coefs, Second(at));
+    let value = acceptance::inner::value(body, start, coefs, Second(at));
     let on = whole::inner::add(at, looks::seconds_on(target, value));
     if target <= value {
         return Enclosing {
@@ -158,7 +158,7 @@ pub fn enclose(body: Body, start: Second, coefs: &[i64], index: i64) -> Enclosin
             by: at,
         };
     }
-    let last = series::inner::last_second(body, start, coefs);
+    let last = acceptance::inner::last_second(body, start, coefs);
     let end = last.0;
     if end <= on {
         return Enclosing { after: at, by: end };

@@ -21,7 +21,7 @@ fn constant(coefs: &[i64], k: usize) -> i64
     requires { ⌜ k < segments (now coefs) ⌝ }
     ensures { λ r. ⌜ Within 1000000000000000 r ⌝ }
 {
-    let part = series::inner::segment_of(coefs, k);
+    let part = acceptance::inner::segment_of(coefs, k);
     part[0]
 }
 
@@ -32,7 +32,7 @@ fn other(coefs: &[i64], k: usize, n: usize) -> i64
     requires { ⌜ (1 ≤ n) × (n < 14) ⌝ }
     ensures { λ r. ⌜ Within 4000000000 r ⌝ }
 {
-    let part = series::inner::segment_of(coefs, k);
+    let part = acceptance::inner::segment_of(coefs, k);
     part[n]
 }
 
@@ -105,11 +105,11 @@ pub fn second_for(body: Body, start: Second, coefs: &[i64], target: i64) -> Near
     ensures { λ r. ⌜ InSpan (series body (start .0) (now (coefs .entry))) (r .at) × (pos 0 <ℤ (r .slope)) ⌝ }
 {
     let first = start.0;
-    let last = series::inner::last_second(body, start, coefs);
+    let last = acceptance::inner::last_second(body, start, coefs);
     let end = last.0;
     let k = segment_for(coefs, target);
     let aimed = place_for(coefs, k, target);
-    let half = series::inner::half_length(body);
+    let half = acceptance::inner::half_length(body);
     Near {
         at: guess::inner::second(first, end, k, half, aimed.place),
         slope: aimed.slope,
@@ -130,7 +130,7 @@ pub fn span(body: Body, start: Second, coefs: &[i64]) -> Looked
     requires { ⌜ Accepted (series body (start .0) (now coefs)) ⌝ }
     ensures { λ r. ⌜ (r .lo ≡ start .0) × (r .hi ≡ lastSecond (series body (start .0) (now (coefs .entry)))) ⌝ }
 {
-    let last = series::inner::last_second(body, start, coefs);
+    let last = acceptance::inner::last_second(body, start, coefs);
     Looked {
         lo: start.0,
         hi: last.0,
@@ -152,7 +152,7 @@ pub fn look(body: Body, start: Second, coefs: &[i64], index: i64, around: Looked
     if hi <= at {
         return around;
     }
-    let value = series::inner::value(body, start, coefs, Second(at));
+    let value = acceptance::inner::value(body, start, coefs, Second(at));
     let target = crate::inner::mark_value(body, index);
     let under = whole::inner::subtract(target, value);
     if value < target {
@@ -167,7 +167,7 @@ pub fn thought(body: Body, near: Near, there: Looked) -> i64
     requires { ⌜ pos 0 <ℤ (near .slope) ⌝ }
     ensures { λ r. ⌜ Within 2000000000000000000 r ⌝ }
 {
-    let half = series::inner::half_length(body);
+    let half = acceptance::inner::half_length(body);
     guess::inner::ahead(near.at, there.under, half, near.slope)
 }
 

@@ -26,7 +26,7 @@ pub fn replace_segment(
     }
     let before = parts::part_of(coefs, number);
     parts::put(coefs, number, part);
-    let judged = series::accept(body, start, coefs);
+    let judged = acceptance::accept(body, start, coefs);
     if let Check::Refused(r) = judged {
         parts::put(coefs, number, before);
         return Check::Refused(r);

@@ -28,7 +28,7 @@ use Rattle.finder.proofs.find.Reads as find-reads
 use Rattle.finder.proofs.inner.first_reached.Reads as first-reached-reads
 use Rattle.finder.proofs.inner.last_reached.Reads as last-reached-reads
 use Rattle.finder.proofs.plan.Reads as plan-reads
-use Rattle.series.proofs.inner.last_second.Reads as last-second-reads
+use Rattle.acceptance.proofs.inner.last_second.Reads as last-second-reads
 
 abbrev called : lts.Claims
 called = (

@@ -18,7 +18,7 @@ use Rattle.finder.proofs.plan.Tie as tie
 use Rattle.finder.proofs.plan.Reads as reads
 use Rattle.finder.proofs.plan.Lts as lts
 use Rattle.finder.proofs.inner.count.Reads as count-reads
-use Rattle.series.proofs.accept.Reads as accept-reads
+use Rattle.acceptance.proofs.accept.Reads as accept-reads
 
 abbrev called : lts.Claims
 called = (accept-reads.Asked, accept-reads.Learnt, count-reads.Asked, count-reads.Learnt)

@@ -1,4 +1,4 @@
--- `forms::accept` meets its contract: a walk of its MIR, by hand. The struct is taken apart, and `series::accept` is called on body, start and coefficients. All that the proof knows of it is that
+-- `forms::accept` meets its contract: a walk of its MIR, by hand. The struct is taken apart, and `acceptance::accept` is called on body, start and coefficients. All that the proof knows of it is that
 -- it meets its contract. The struct is Copy: one copy of what it owns is kept for the exit. Assumes nothing.
 use mathlib.Core.Path.{_≡_, refl}
 use mathlib.Core.List.{List, [], _∷_}
@@ -48,10 +48,10 @@ use Rattle.refusals.specs.declared.Check.{Check}
 use Rattle.refusals.proofs.Check as S
 use Rattle.refusals.proofs.Check.Laws as S′
 use Rattle.series.specs.Acceptance.{seriesJudged}
-use Rattle.series.proofs.accept as callee
-use Rattle.series.proofs.accept.Symbol as callee-def
-use Rattle.series.proofs.accept.Symbol.{name as #series·accept}
-use Rattle.series.proofs.accept.Met as callee-thm
+use Rattle.acceptance.proofs.accept as callee
+use Rattle.acceptance.proofs.accept.Symbol as callee-def
+use Rattle.acceptance.proofs.accept.Symbol.{name as #series·accept}
+use Rattle.acceptance.proofs.accept.Met as callee-thm
 use Rattle.forms.specs.declared.Series.{Series}
 use Rattle.records.proofs.Walking.{sliced, second-val, SliceOwn, IsSecond, has-second}
 use Rattle.forms.proofs.Taken.{body-val, SeriesOwn, IsBody, start-is, coefs-out, has-body}

@@ -1,4 +1,4 @@
--- `forms::value_at` meets its contract: a walk of its MIR, by hand. The struct is taken apart, and `series::value_at` is called on body, start, coefficients and second. All that the proof knows of it is that
+-- `forms::value_at` meets its contract: a walk of its MIR, by hand. The struct is taken apart, and `acceptance::value_at` is called on body, start, coefficients and second. All that the proof knows of it is that
 -- it meets its contract. The struct is Copy: one copy of what it owns is kept for the exit. Assumes nothing.
 use mathlib.Core.Path.{_≡_, refl}
 use mathlib.Core.List.{List, [], _∷_}
@@ -48,10 +48,10 @@ use Rattle.series.specs.declared.ValueAnswer.{ValueAnswer}
 use Rattle.series.proofs.ValueAnswer as S
 use Rattle.series.proofs.ValueAnswer.Laws as S′
 use Rattle.series.specs.Acceptance.{paperValue, valueOf}
-use Rattle.series.proofs.value_at as callee
-use Rattle.series.proofs.value_at.Symbol as callee-def
-use Rattle.series.proofs.value_at.Symbol.{name as #series·value-at}
-use Rattle.series.proofs.value_at.Met as callee-thm
+use Rattle.acceptance.proofs.value_at as callee
+use Rattle.acceptance.proofs.value_at.Symbol as callee-def
+use Rattle.acceptance.proofs.value_at.Symbol.{name as #series·value-at}
+use Rattle.acceptance.proofs.value_at.Met as callee-thm
 use Rattle.forms.specs.declared.Series.{Series}
 use Rattle.records.proofs.Walking.{sliced, second-val, SliceOwn, IsSecond, has-second}
 use Rattle.forms.proofs.Taken.{body-val, SeriesOwn, IsBody, start-is, coefs-out, has-body}

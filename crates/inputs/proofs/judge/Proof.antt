@@ -14,7 +14,7 @@ use Rattle.inputs.proofs.judge.Reads as reads
 use Rattle.inputs.proofs.judge.Lts as lts
 use Rattle.conversion.proofs.judge_leap_table.Reads as judge-leap-table-reads
 use Rattle.inputs.proofs.inner.any_early.Reads as any-early-reads
-use Rattle.series.proofs.accept.Reads as accept-reads
+use Rattle.acceptance.proofs.accept.Reads as accept-reads
 
 abbrev called : lts.Claims
 called = (judge-leap-table-reads.Asked, judge-leap-table-reads.Learnt, accept-reads.Asked, accept-reads.Learnt, any-early-reads.Asked, any-early-reads.Learnt)

@@ -17,7 +17,7 @@ use Rattle.replacing.proofs.replace_segment.Reads as reads
 use Rattle.replacing.proofs.replace_segment.Lts as lts
 use Rattle.replacing.proofs.parts.part_of.Reads as part-of-reads
 use Rattle.replacing.proofs.parts.put.Reads as put-reads
-use Rattle.series.proofs.accept.Reads as accept-reads
+use Rattle.acceptance.proofs.accept.Reads as accept-reads
 
 abbrev called : lts.Claims
 called = (part-of-reads.Asked, part-of-reads.Learnt, put-reads.Asked, put-reads.Learnt, accept-reads.Asked, accept-reads.Learnt)

@@ -8,7 +8,7 @@ use Rattle.building.proofs.refused.of_inputs.Tie as tie
 use Rattle.building.proofs.refused.of_inputs.Reads as reads
 use Rattle.building.proofs.refused.of_inputs.Lts as lts
 use Rattle.conversion.proofs.judge_leap_table.Reads as judge-leap-table-reads
-use Rattle.series.proofs.accept.Reads as accept-reads
+use Rattle.acceptance.proofs.accept.Reads as accept-reads
 
 judge-leap-table-requires : tie.Need-judge-leap-table-requires
 judge-leap-table-requires c κs = search needs

@@ -14,7 +14,7 @@ use Rattle.corrected.proofs.reaching.segment_start.Statement.{statement
 use Rattle.corrected.proofs.reaching.segment_start.Tie as tie
 use Rattle.corrected.proofs.reaching.segment_start.Reads as reads
 use Rattle.corrected.proofs.reaching.segment_start.Lts as lts
-use Rattle.series.proofs.inner.half_length.Reads as half-length-reads
+use Rattle.acceptance.proofs.inner.half_length.Reads as half-length-reads
 use Rattle.whole.proofs.inner.add.Reads as add-reads
 use Rattle.whole.proofs.inner.signed.Reads as signed-reads
 

@@ -29,7 +29,7 @@ use Rattle.locator.proofs.inner.locate_between.Lts as lts
 use Rattle.guess.proofs.inner.halve_next.Reads as halve-next-reads
 use Rattle.guess.proofs.inner.seconds_on.Reads as seconds-on-reads
 use Rattle.locator.proofs.inner.mark_value.Reads as mark-value-reads
-use Rattle.series.proofs.inner.value.Reads as value-reads
+use Rattle.acceptance.proofs.inner.value.Reads as value-reads
 use Rattle.whole.proofs.inner.add.Reads as add-reads
 use Rattle.whole.proofs.inner.distance.Reads as distance-reads
 use Rattle.whole.proofs.inner.signed.Reads as signed-reads

@@ -16,7 +16,7 @@ use Rattle.locator.proofs.inner.settle.Tie as tie
 use Rattle.locator.proofs.inner.settle.Reads as reads
 use Rattle.locator.proofs.inner.settle.Lts as lts
 use Rattle.whole.proofs.inner.distance.Reads as distance-reads
-use Rattle.series.proofs.inner.value.Reads as value-reads
+use Rattle.acceptance.proofs.inner.value.Reads as value-reads
 use Rattle.locator.proofs.inner.locate_between.Reads as locate-between-reads
 
 abbrev called : lts.Claims

@@ -17,7 +17,7 @@ use Rattle.locator.proofs.looks.look.Statement.{statement}
 use Rattle.locator.proofs.looks.look.Tie as tie
 use Rattle.locator.proofs.looks.look.Reads as reads
 use Rattle.locator.proofs.looks.look.Lts as lts
-use Rattle.series.proofs.inner.value.Reads as value-reads
+use Rattle.acceptance.proofs.inner.value.Reads as value-reads
 use Rattle.locator.proofs.inner.mark_value.Reads as mark-value-reads
 use Rattle.whole.proofs.inner.subtract.Reads as subtract-reads
 

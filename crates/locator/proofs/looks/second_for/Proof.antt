@@ -18,10 +18,10 @@ use Rattle.locator.proofs.looks.second_for.Statement.{statement}
 use Rattle.locator.proofs.looks.second_for.Tie as tie
 use Rattle.locator.proofs.looks.second_for.Reads as reads
 use Rattle.locator.proofs.looks.second_for.Lts as lts
-use Rattle.series.proofs.inner.last_second.Reads as last-second-reads
+use Rattle.acceptance.proofs.inner.last_second.Reads as last-second-reads
 use Rattle.locator.proofs.looks.segment_for.Reads as segment-for-reads
 use Rattle.locator.proofs.looks.place_for.Reads as place-for-reads
-use Rattle.series.proofs.inner.half_length.Reads as half-length-reads
+use Rattle.acceptance.proofs.inner.half_length.Reads as half-length-reads
 use Rattle.guess.proofs.inner.second.Reads as second-reads
 
 abbrev called : lts.Claims
