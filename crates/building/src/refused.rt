@@ -1,6 +1,6 @@
 // Which of the two series a build refuses by 2 to 5: its number alone does not say.
-use conversion::judge_leap_table;
 use crate::SeriesAnswer;
+use conversion::judge_leap_table;
 use layout::inner::PlacesAnswer;
 use refusals::Check;
 use series::Body;

@@ -44,7 +44,12 @@ pub extern "C" fn hzk_value_at(
     ensures { λ r. ⌜ now (answer .exit) ≡ recordOf (valueOf (series (bodyOf moon) start (now (coefs .entry))) second) valueNumbers ⌝ }
 {
     record::tell(
-        record::value_record(acceptance::value_at(body_of(moon), Second(start), coefs, Second(second))),
+        record::value_record(acceptance::value_at(
+            body_of(moon),
+            Second(start),
+            coefs,
+            Second(second),
+        )),
         answer,
     )
 }

@@ -1,7 +1,7 @@
 // The lines of a lawful file's suis, put into lent room.
+use crate::lines::line_bytes;
 use almanac::Counts;
 use almanac::WriteAnswer;
-use crate::lines::line_bytes;
 use text::inner::put;
 use words::inner::signed4_at;
 ghost use mathlib.Core.Path.{_≡_};

@@ -1,6 +1,6 @@
 // The second of a listed mark by its index, and the k-th listed mark.
-use crate::looks::Looked;
 use crate::looks;
+use crate::looks::Looked;
 use finder::inner::first_reached;
 use finder::inner::mark_size;
 use marks::ListedMark;

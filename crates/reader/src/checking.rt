@@ -1,11 +1,11 @@
 // Whether the content that stands in a file is lawful, judged from its bytes, record after record; only the leap table is read into words.
+use crate::reading::read_entries;
 use almanac::Counts;
 use content::inner::MonthsJudged;
 use content::inner::first_handle;
 use content::inner::good_sui;
 use content::inner::judge_month;
 use conversion::inner::leap_lawful;
-use crate::reading::read_entries;
 use dates::inner::has_date;
 use times::Day;
 use whole::inner::add;

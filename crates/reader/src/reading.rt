@@ -1,6 +1,6 @@
 // Reading a section of a file into lent words. Callers show that the bytes are there, and the room.
-use almanac::Counts;
 use crate::inner::read_months;
+use almanac::Counts;
 use words::inner::byte_at;
 use words::inner::signed4_at;
 use words::inner::unsigned4_at;

@@ -1,6 +1,6 @@
 // For builds: a content that is known to be lawful. Callers show that it is.
-use almanac::WriteAnswer;
 use crate::writing::put_content;
+use almanac::WriteAnswer;
 ghost use mathlib.Core.Path.{_≡_};
 ghost use mathlib.Core.Bool.{true};
 ghost use lib.ListN.{length};

@@ -1,7 +1,7 @@
 // Writing a section of a file from the words of its list. Callers show that the numbers fit their fields, and the room.
 use whole::inner::signed;
-use words::inner::put4;
 use words::inner::put_byte;
+use words::inner::put4;
 ghost use mathlib.Core.Path.{_≡_};
 ghost use mathlib.Core.List.{[], _∷_, _++_};
 ghost use Prim.Native.Nat.{_+_, _*_, _/_, _≤_, _<_};

@@ -1,7 +1,7 @@
 // The days of solstices, new moons and zhongqi that n suis need, found once and kept; and the records of the suis, kept until they are written.
-use almanac::WriteAnswer;
 use crate::years::YearsAnswer;
 use crate::years::put_years;
+use almanac::WriteAnswer;
 use series::Body;
 use suis::inner::Places;
 use suis::inner::days_ahead;

@@ -19,6 +19,14 @@ use Rattle.kept_or_made.specs.declared.inner.years.Again.{Again}
 use Rattle.rebuilt.specs.Rebuild.{daysWords}
 use Rattle.kept_or_made.specs.Again.{againCount, againMonths, putAnswered, monthsAtPlace, yearCount, yearMonths, yearListed, yearAgain}
 
+-- where there is nothing to put, and where there is something
+module _ {A : Type 0} (words : A → List ℤ) (at : ℕ) (l : List ℤ) where
+  pub nothing-put : {v : Verdict A} {number segment : ℕ} → v ≡ refused number segment → putAnswered v words at l ≡ l
+  nothing-put e = ap (λ (v : Verdict A). putAnswered v words at l) e
+
+  pub something-put : {v : Verdict A} {a : A} → v ≡ answered a → putAnswered v words at l ≡ placed at (words a) l
+  something-put e = ap (λ (v : Verdict A). putAnswered v words at l) e
+
 -- one word put
 pub one-put : (l : List ℤ) (at : ℕ) (z : ℤ) → at < length l → set l at z ≡ placed at (z ∷ []) l
 one-put l at z h =

@@ -35,7 +35,8 @@ use Rattle.build.specs.theory.Walk.{walk-starts, walk-goes-on, walk-ends, walk-
 use Rattle.kept_or_made.specs.declared.inner.years.Again.{Again as AgainRecord}
 use Rattle.kept_or_made.specs.declared.inner.years.AgainAnswer.the-variants.{Again, Refused}
 use Rattle.rebuilt.specs.Rebuild.{daysWords}
-use Rattle.kept_or_made.specs.Again.{paperAgain, yearAgain, yearCount, yearMonths, yearListed, listedAgain, Copies}
+use Rattle.kept_or_made.specs.Again.{paperAgain, yearAgain, yearCount, yearMonths, yearListed, listedAgain, putAnswered, Copies}
+use Rattle.kept_or_made.specs.theory.Putting.{nothing-put, something-put}
 use Rattle.kept_or_made.specs.theory.Walking.{Kept as Kept-by, AtAgain, fresh-count, fresh-months, again-refused, again-answered, listed-few, none-listed, year-listed, more-listed, none-counted, years-stop, years-end}
 use Rattle.kept_or_made.proofs.inner.walk.put_years_again.Statement.{statement}
 use Rattle.kept_or_made.proofs.inner.walk.put_years_again.Tie as tie
@@ -164,6 +165,26 @@ twenty-eight j = omega arith
 
 says : (c : Put) → (let loop = loop-of c in paperAgain (c .year-again .result) ≡ yearAgain (year-of loop) (days-of loop) (before-of loop) (loop .loop .years))
 says c = rw (toZ-ofZ (first-of (loop-of c) .fits .zone), at-added (c .before .before .before .before .before .before .before .before), twenty-eight (loop-of c .loop .j)) at (c .year-again .ensures .0)
+
+-- what is put: a sui's record, its months' words, its year where it is listed
+abbrev record-of : Loop → ℕ → List ℤ
+record-of c count = year-of c ∷ pos count ∷ []
+
+abbrev listed-of : Loop → ℕ → List ℤ
+listed-of c count = yearListed (year-of c) (days-of c) (before-of c)
+
+abbrev themselves : List ℤ → List ℤ
+themselves words = words
+
+-- what stands in the lent words then
+suis-after : (c : Put) → (let loop = loop-of c in c .year-again .last .1 .1 .1 .1 .1 .1 .1 .1 .1 .1 .1 .1 .1 .1 .1 .1 .1 .1 .1 .0 ≡ putAnswered (yearCount (year-of loop) (days-of loop) (before-of loop)) (record-of loop) (2 * loop .loop .j) (loop .loop .suis))
+suis-after c = rw (toZ-ofZ (first-of (loop-of c) .fits .zone), at-added (c .before .before .before .before .before .before .before .before), twenty-eight (loop-of c .loop .j)) at (c .year-again .ensures .1 .0)
+
+months-after : (c : Put) → (let loop = loop-of c in c .year-again .last .1 .1 .1 .1 .1 .1 .1 .1 .1 .1 .1 .1 .1 .1 .1 .1 .1 .1 .1 .1 .0 ≡ putAnswered (yearMonths (year-of loop) (days-of loop) (before-of loop) (first-of loop .args .old .now) (place-of loop)) themselves (3 * loop .loop .from) (loop .loop .months))
+months-after c = rw (toZ-ofZ (first-of (loop-of c) .fits .zone), at-added (c .before .before .before .before .before .before .before .before), twenty-eight (loop-of c .loop .j)) at (c .year-again .ensures .1 .1 .0)
+
+kept-after : (c : Put) → (let loop = loop-of c in c .year-again .last .1 .1 .1 .1 .1 .1 .1 .1 .1 .1 .1 .1 .1 .1 .1 .1 .1 .1 .1 .1 .1 .0 ≡ putAnswered (yearCount (year-of loop) (days-of loop) (before-of loop)) (listed-of loop) (loop .loop .years) (loop .loop .kept))
+kept-after c = rw (toZ-ofZ (first-of (loop-of c) .fits .zone), at-added (c .before .before .before .before .before .before .before .before), twenty-eight (loop-of c .loop .j)) at (c .year-again .ensures .1 .1 .1)
 
 -- refused, by why
 refused-by : (c : Put) {r : Refusal} → c .year-again .result ≡ Refused r → sui-of (loop-of c) ≡ refusal r
@@ -355,19 +376,19 @@ same-length : tie.Need-same-length Inv-loop μ-loop
 same-length c =
     let put = c .before .before .before .before .before .before in
     let loop = loop-of put in
-    ap length (rw (toZ-ofZ (first-of loop .fits .zone), at-added (put .before .before .before .before .before .before .before .before), twenty-eight (loop .loop .j), no-count put (c .before .put .given .1)) at (put .year-again .ensures .1 .0)) ∙ rooms loop .0
+    ap length (suis-after put ∙ nothing-put (record-of loop) (2 * loop .loop .j) (loop .loop .suis) (no-count put (c .before .put .given .1))) ∙ rooms loop .0
 
 same-length-2 : tie.Need-same-length-2 Inv-loop μ-loop
 same-length-2 c =
     let put = c .before .before .before .before .before .before in
     let loop = loop-of put in
-    ap length (rw (toZ-ofZ (first-of loop .fits .zone), at-added (put .before .before .before .before .before .before .before .before), twenty-eight (loop .loop .j), no-months put (c .before .put .given .1)) at (put .year-again .ensures .1 .1 .0)) ∙ rooms loop .1 .0
+    ap length (months-after put ∙ nothing-put themselves (3 * loop .loop .from) (loop .loop .months) (no-months put (c .before .put .given .1))) ∙ rooms loop .1 .0
 
 same-length-3 : tie.Need-same-length-3 Inv-loop μ-loop
 same-length-3 c =
     let put = c .before .before .before .before .before .before in
     let loop = loop-of put in
-    ap length (rw (toZ-ofZ (first-of loop .fits .zone), at-added (put .before .before .before .before .before .before .before .before), twenty-eight (loop .loop .j), no-count put (c .before .put .given .1)) at (put .year-again .ensures .1 .1 .1)) ∙ rooms loop .1 .1
+    ap length (kept-after put ∙ nothing-put (listed-of loop) (loop .loop .years) (loop .loop .kept) (no-count put (c .before .put .given .1))) ∙ rooms loop .1 .1
 
 returns : tie.Need-returns Inv-loop μ-loop
 returns c =
@@ -429,11 +450,9 @@ loop-again c =
     let found = found-with put (told .put2 .given .1) in
     let count = count-of put (told .put2 .given .1) in
     let months = months-put put (found .1) in
-    let zone = toZ-ofZ (start .fits .zone) in
-    let year = at-added (put .before .before .before .before .before .before .before .before) in
-    let suis = rw (zone, year, twenty-eight j, count) at (put .year-again .ensures .1 .0) in
-    let words = rw (zone, year, twenty-eight j, months) at (put .year-again .ensures .1 .1 .0) in
-    let kept = rw (zone, year, twenty-eight j, count) at (put .year-again .ensures .1 .1 .1) in
+    let suis = suis-after put ∙ something-put (record-of loop) (2 * j) (loop .loop .suis) count in
+    let words = months-after put ∙ something-put themselves (3 * loop .loop .from) (loop .loop .months) months in
+    let kept = kept-after put ∙ something-put (listed-of loop) (loop .loop .years) (loop .loop .kept) count in
     let goes-on = walk-goes-on i (a .zone) (a .suns) (a .moons) (t .places) (a .first) (a .n) (t .walks .begun) (a .suis .now) (a .months .now) (t .walked) (found .1) (omega (arith, turn, start .pre .1 .1 .0)) (omega (arith, turn, few loop, start .pre .1 .1 .1 .0)) (suis ∙ ap (λ (k : ℕ). placed (2 * j) (year-of loop ∷ pos k ∷ []) (loop .loop .suis)) (sym (found .2))) words in
     rw (toZ-ofZ (start .fits .zone), toZ-ofZ (start .fits .first)) (record {
       places = t .places;
