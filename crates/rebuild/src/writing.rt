@@ -1,14 +1,11 @@
 // The new file and the years, by the days ahead: everything is judged before the first byte or year is written.
-use almanac::WriteAnswer;
-use kept_or_made::inner::days::put_words;
 use kept_or_made::inner::walk::put_years_again;
 use kept_or_made::inner::years::AgainAnswer;
+use new_file::inner::write_both;
 use rebuilt::RebuildAnswer;
-use rebuilt::Rebuilt;
 use suis::inner::Places;
 use times::Second;
 use turns::inner::TurnList;
-use writer::inner::write_lawful;
 ghost use mathlib.Core.Path.{_≡_};
 ghost use lib.ListN.{length};
 ghost use Rattle.refusals.specs.Lent.{writtenInto};
@@ -87,21 +84,13 @@ pub fn rebuild_from(
     );
     match put {
         AgainAnswer::Refused(r) => RebuildAnswer::Refused(r),
-        AgainAnswer::Again(a) => {
-            if years.len() < a.years {
-                return RebuildAnswer::Refused(refusals::ROOM);
-            }
-            let written = write_lawful(leap, &suis[..2 * n], &months[..3 * a.months], file);
-            match written {
-                WriteAnswer::Refused(r) => RebuildAnswer::Refused(r),
-                WriteAnswer::Written(bytes) => {
-                    put_words(&kept[..a.years], years, 0);
-                    RebuildAnswer::Rebuilt(Rebuilt {
-                        bytes: bytes,
-                        years: a.years,
-                    })
-                }
-            }
-        }
+        AgainAnswer::Again(a) => write_both(
+            leap,
+            &suis[..2 * n],
+            &months[..3 * a.months],
+            &kept[..a.years],
+            file,
+            years,
+        ),
     }
 }

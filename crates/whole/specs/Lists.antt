@@ -1,11 +1,11 @@
 -- A list with a part put over what stood there, and the laws of it: two parts one behind the other are one part, and what stands before and behind stays.
 -- Over any element. Assumes nothing.
 use mathlib.Core.Path.{_≡_, sym, ap, ap₂, _∙_}
-use mathlib.Core.List.{List, [], _++_, append-assoc, append-nil}
-use Prim.Native.Nat.{ℕ, _+_, _≤_}
+use mathlib.Core.List.{List, [], _∷_, _++_, append-assoc, append-nil}
+use Prim.Native.Nat.{ℕ, suc, _+_, _≤_, _<_}
 use native.Mathlib.Omega.{arith}
-use lib.ListN.{length, take, drop, length-append, length-drop, take-append-drop}
-use lib.Seq.{take-at, drop-at, drop-drop, drop-append-le, length-take-le}
+use lib.ListN.{length, getD, set, take, drop, length-append, length-drop, take-append-drop}
+use lib.Seq.{append-snoc, set-split, take-suc, take-at, drop-at, drop-drop, drop-append-le, length-take-le}
 use borrow.Rule.Slice.PartMut.{midOf, postOf, putMid}
 
 -- l with `part` from `at` on
@@ -60,3 +60,18 @@ put-back {A} ws part a k m size fits =
         ∙ ap (drop m) (take-append-drop k (drop a ws))
         ∙ drop-drop m a ws
         ∙ ap (λ (n : ℕ). drop (a + n) ws) (sym size)
+
+-- word i of a part, put behind those before it
+pub word-put : {A : Type 0} (l part : List A) (at i : ℕ) (d : A) {now : List A} → i < length part → at + length part ≤ length l → now ≡ placed at (take i part) l → set now (at + i) (getD part i d) ≡ placed at (take (i + 1) part) l
+word-put {A} l part at i d {now} h room e =
+    let long : length (take i part) ≡ i = length-take-le i part (omega arith) in
+    let next : i + 1 ≡ suc i = omega arith in
+    let there : length now ≡ length l = ap length e ∙ placed-length l (take i part) at (omega (arith, long)) in
+    let behind : suc (at + i) ≡ at + i + 1 = omega arith in
+    let word = getD part i d in
+    set-split now (at + i) word (omega (arith, there))
+    ∙ ap (λ (k : ℕ). take (at + i) now ++ word ∷ drop k now) behind
+    ∙ sym (append-snoc (take (at + i) now) word (drop (at + i + 1) now))
+    ∙ ap₂ (λ (k : ℕ) (x : List A). placed (at + k) (word ∷ []) x) (sym long) e
+    ∙ placed-both l (take i part) at (word ∷ []) (omega (arith, long))
+    ∙ ap (λ (x : List A). placed at x l) (sym (ap (λ (k : ℕ). take k part) next ∙ take-suc part i d h))

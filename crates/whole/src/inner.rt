@@ -1,12 +1,14 @@
 // Leaf functions that ask something of their arguments: callers show that a result fits, and see only ℤ.
 ghost use mathlib.Core.Path.{_≡_};
-ghost use Prim.Native.Nat.{_^_, _<_};
+ghost use Prim.Native.Nat.{_+_, _^_, _≤_, _<_};
 ghost use lib.IntN.{pos, natAbs, _+ℤ_, _-ℤ_, _*ℤ_};
+ghost use lib.ListN.{length};
 ghost use lib.Signed.{_≤ℤ_, _<ℤ_};
 ghost use mir.Syntax.{w64};
 ghost use mir.Val.{SFits};
 ghost use Rattle.whole.specs.Floor.{floorDiv, floorMod};
 ghost use Rattle.whole.specs.Distance.{distanceFrom, halfWay};
+ghost use Rattle.whole.specs.Lists.{placed};
 ghost use Rattle.whole.specs.Tests.{inRange};
 
 // The sum of two numbers, where it fits.
@@ -95,4 +97,17 @@ pub fn in_range(low: i64, high: i64, z: i64) -> bool
         return false;
     }
     z <= high
+}
+
+// Words, put into lent ones.
+pub fn put_words(words: &[i64], out: &mut [i64], at: usize)
+    requires { ⌜ at + length (now words) ≤ length (now out) ⌝ }
+    ensures { λ _. ⌜ now (out .exit) ≡ placed at (now (words .entry)) (now (out .entry)) ⌝ }
+{
+    let n = words.len();
+    let mut i: usize = 0;
+    while i < n {
+        out[at + i] = words[i];
+        i += 1;
+    }
 }

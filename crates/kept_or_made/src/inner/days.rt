@@ -5,6 +5,7 @@ use suis::inner::days_after;
 use times::Second;
 use turns::inner::TurnList;
 use whole::inner::add;
+use whole::inner::put_words;
 use whole::inner::signed;
 ghost use mathlib.Core.Path.{_≡_};
 ghost use Prim.Native.Nat.{_+_, _*_, _≤_};
@@ -14,19 +15,6 @@ ghost use Rattle.inputs.specs.Inputs.{inputs};
 ghost use Rattle.build.specs.theory.Walk.{Walks};
 ghost use Rattle.rebuilt.specs.Rebuild.{daysWords};
 ghost use Rattle.kept_or_made.specs.OldDays.{AllFound, daysOfYears};
-
-// Words, put into lent ones.
-pub fn put_words(words: &[i64], out: &mut [i64], at: usize)
-    requires { ⌜ at + length (now words) ≤ length (now out) ⌝ }
-    ensures { λ _. ⌜ now (out .exit) ≡ placed at (now (words .entry)) (now (out .entry)) ⌝ }
-{
-    let n = words.len();
-    let mut i: usize = 0;
-    while i < n {
-        out[at + i] = words[i];
-        i += 1;
-    }
-}
 
 // The days of a sui.
 pub fn days_words(days: SuiDays) -> [i64; 28]

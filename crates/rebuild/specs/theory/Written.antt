@@ -1,25 +1,15 @@
--- What is written at last, case by case: the new file and the listed years where both have room, else nothing. Assumes nothing.
-use mathlib.Core.Path.{_≡_, refl, sym, ap, ap₂, _∙_}
-use mathlib.Core.Bool.{Bool, true, false}
-use mathlib.Core.List.{List, _++_}
-use Prim.Native.Nat.{ℕ, _≤_, _<_}
-use native.Mathlib.Omega.{arith}
-use borrow.Author.Tests.{lt-ltb, le-ltb}
-use lib.Dec.{ltb}
+-- What the fresh build gives, by the suis that were found. Assumes nothing.
+use mathlib.Core.Path.{_≡_}
+use mathlib.Core.List.{List}
+use Prim.Native.Nat.{ℕ}
 use lib.IntN.{ℤ}
-use lib.ListN.{length, drop}
-use Rattle.refusals.specs.Verdict.{Verdict, answered, refused, refuseWhen, answers-apart, answer-or-refusal, _before_, _then_}
-use Rattle.refusals.specs.Lent.{writtenInto}
+use Rattle.refusals.specs.Verdict.{refused, answered}
 use Rattle.inputs.specs.Inputs.{Inputs}
 use Rattle.months.specs.declared.Sui.{Sui}
-use Rattle.content.specs.Content.{Content, content}
-use Rattle.almanac.specs.Layout.{bytesOf}
-use Rattle.almanac.specs.Answers.{bytesInto, bytesCounted, all-bytes}
+use Rattle.content.specs.Content.{content}
+use Rattle.almanac.specs.Answers.{bytesInto}
 use Rattle.built.specs.Build.{suisFrom, suiWords, monthWords, bytesOfYears, bytesBy, contentBy}
-use Rattle.rebuilt.specs.declared.Rebuilt.{Rebuilt}
-use Rattle.rebuilt.specs.Rebuild.{NewFile, newFileBy, counted, new-bytes, kept-years}
 
--- ---- what the fresh build gives, by the suis that were found
 pub fresh-refused : (i : Inputs) (zone first : ℤ) (n room : ℕ) {number segment : ℕ} → suisFrom i zone first n ≡ refused number segment → bytesOfYears i zone first n room ≡ refused number segment
 unfolding bytesBy contentBy
 fresh-refused i zone first n room e = rw e
@@ -27,43 +17,3 @@ fresh-refused i zone first n room e = rw e
 pub fresh-bytes : (i : Inputs) (zone first : ℤ) (n room : ℕ) {suis : List Sui} → suisFrom i zone first n ≡ answered suis → {s m : List ℤ} → s ≡ suiWords first suis → m ≡ monthWords suis → bytesOfYears i zone first n room ≡ bytesInto (content (i .leap) s m) room
 unfolding bytesBy contentBy
 fresh-bytes i zone first n room e p q = rw (e, ← p, ← q)
-
--- room for the bytes is all that a lawful content can lack
-pub bytes-or-12 : (c : Content) (room : ℕ) {number segment : ℕ} → bytesInto c room ≡ refused number segment → _≡_ {A = Verdict (List ℕ)} (refused number segment) (refused 12 0)
-bytes-or-12 c room e = go (ltb room (length (bytesOf c))) e
-  where
-    go : (b : Bool) {number segment : ℕ} → (refuseWhen b 12 before answered (bytesOf c)) ≡ refused number segment → _≡_ {A = Verdict (List ℕ)} (refused number segment) (refused 12 0)
-    go true e = sym e
-    go false e = answer-or-refusal e
-
--- ---- what the writer says of the bytes
-pub counted-refused : (w : Verdict (List ℕ)) {number segment : ℕ} → refused number segment ≡ bytesCounted w → w ≡ refused number segment
-counted-refused (answered bytes) e = answer-or-refusal (sym e)
-counted-refused (refused number segment) e = cc
-
-pub counted-answered : (w : Verdict (List ℕ)) {count : ℕ} → answered count ≡ bytesCounted w → (bytes : List ℕ) × ((w ≡ answered bytes) × (length bytes ≡ count))
-counted-answered (answered bytes) e = (bytes, (refl, sym (answers-apart e)))
-counted-answered (refused number segment) e = answer-or-refusal e
-
--- ---- the three promises
-module _ (w : Verdict (List ℕ)) (listed : List ℤ) (file : List ℕ) (years : List ℤ) where
-  abbrev pub whole : Verdict NewFile
-  whole = newFileBy w listed (length years)
-
-  abbrev pub Promises : Verdict Rebuilt → List ℕ → List ℤ → Type 0
-  Promises result file′ years′ = (result ≡ counted whole) × ((file′ ≡ writtenInto whole new-bytes file) × (years′ ≡ writtenInto whole kept-years years))
-
-  pub not-built : {number segment : ℕ} → w ≡ refused number segment → {file′ : List ℕ} → file′ ≡ file → Promises (refused number segment) file′ years
-  unfolding newFileBy
-  not-built e f = rw e (refl, (f, refl))
-
-  pub few-places : length years < length listed → {bytes : List ℕ} → w ≡ answered bytes → Promises (refused 12 0) file years
-  unfolding newFileBy
-  few-places h e = rw (e, lt-ltb (length years) (length listed) h) (refl, (refl, refl))
-
-  pub all-written : length listed ≤ length years → {bytes : List ℕ} → w ≡ answered bytes → {file′ : List ℕ} {years′ : List ℤ} {b k : ℕ} → length bytes ≡ b → length listed ≡ k → file′ ≡ bytes ++ drop (length bytes) file → years′ ≡ listed ++ drop (length listed) years → Promises (answered (record { bytes = b; years = k })) file′ years′
-  unfolding newFileBy
-  all-written h {bytes} e {file′} {years′} {b} {k} p q f y = rw (e, le-ltb (length years) (length listed) h) (ap answered (sym both), (f, y))
-    where
-      both : _≡_ {A = Rebuilt} (record { bytes = length bytes; years = length listed }) (record { bytes = b; years = k })
-      both = λ t. record { bytes = p t; years = q t }

@@ -1,4 +1,4 @@
--- Words put one behind the other, and the zhongqi days of suis among them: those of each sui stand thirteen on from those of the one before. Assumes nothing.
+-- The zhongqi days of suis, put one behind the other: those of each sui stand thirteen on from those of the one before. Assumes nothing.
 use mathlib.Core.Path.{_≡_, refl, sym, ap, ap₂, _∙_}
 use mathlib.Core.List.{List, [], _∷_, _++_, append-assoc}
 use Prim.Native.Nat.{ℕ, zero, suc, _+_, _-_, _*_, _≤_, _<_}
@@ -21,21 +21,6 @@ use Rattle.sui.specs.theory.Found.{zhongqiFrom}
 use Rattle.sui.specs.theory.Solstices.{one-circle-on}
 use Rattle.suis.specs.Ahead.{Ahead, zhongqiOf}
 use Rattle.suis.specs.theory.Lookups.{day-is, Fewer}
-
--- word i of a part, put behind those before it
-pub word-put : (l part : List ℤ) (at i : ℕ) (d : ℤ) {now : List ℤ} → i < length part → at + length part ≤ length l → now ≡ placed at (take i part) l → set now (at + i) (getD part i d) ≡ placed at (take (i + 1) part) l
-word-put l part at i d {now} h room e =
-    let long : length (take i part) ≡ i = length-take-le i part (omega arith) in
-    let next : i + 1 ≡ suc i = omega arith in
-    let there : length now ≡ length l = ap length e ∙ placed-length l (take i part) at (omega (arith, long)) in
-    let behind : suc (at + i) ≡ at + i + 1 = omega arith in
-    let word = getD part i d in
-    set-split now (at + i) word (omega (arith, there))
-    ∙ ap (λ (k : ℕ). take (at + i) now ++ word ∷ drop k now) behind
-    ∙ sym (append-snoc (take (at + i) now) word (drop (at + i + 1) now))
-    ∙ ap₂ (λ (k : ℕ) (x : List ℤ). placed (at + k) (word ∷ []) x) (sym long) e
-    ∙ placed-both l (take i part) at (word ∷ []) (omega (arith, long))
-    ∙ ap (λ (x : List ℤ). placed at x l) (sym (ap (λ (k : ℕ). take k part) next ∙ take-suc part i d h))
 
 module _ (leap : List ℤ) (s : Series) (zone : ℤ) (place : ℕ) where
   abbrev of-sui : ℕ → List ℤ

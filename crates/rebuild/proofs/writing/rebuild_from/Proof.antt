@@ -22,20 +22,20 @@ use Rattle.kept_or_made.specs.declared.inner.years.Again.{Again as AgainRecord}
 use Rattle.kept_or_made.specs.declared.inner.years.AgainAnswer.the-variants.{Again, Refused}
 use Rattle.kept_or_made.specs.Again.{paperAgain, yearsAgain, listedAgain}
 use Rattle.kept_or_made.specs.theory.Walking.{YearsFound, years-refused, years-found, listed-few}
-use Rattle.rebuild.specs.theory.Written.{fresh-refused, fresh-bytes, counted-refused, counted-answered, Promises, not-built, few-places, all-written, bytes-or-12}
+use Rattle.new_file.specs.NewFile.{not-built, same-promises}
+use Rattle.rebuild.specs.theory.Written.{fresh-refused, fresh-bytes}
 use borrow.Author.Needs.{needs}
 use Rattle.rebuild.proofs.writing.rebuild_from.Statement.{statement}
 use Rattle.rebuild.proofs.writing.rebuild_from.Tie as tie
 use Rattle.rebuild.proofs.writing.rebuild_from.Reads as reads
 use Rattle.rebuild.proofs.writing.rebuild_from.Lts as lts
-use Rattle.writer.proofs.inner.write_lawful.Reads as write-lawful-reads
-use Rattle.kept_or_made.proofs.inner.days.put_words.Reads as put-words-reads
 use Rattle.kept_or_made.proofs.inner.walk.put_years_again.Reads as put-years-again-reads
+use Rattle.new_file.proofs.inner.write_both.Reads as write-both-reads
 use Rattle.rebuild.proofs.writing.sui_words.Reads as sui-words-reads
 use Rattle.rebuild.proofs.writing.year_words.Reads as year-words-reads
 
 abbrev called : lts.Claims
-called = (sui-words-reads.Asked, sui-words-reads.Learnt, year-words-reads.Asked, year-words-reads.Learnt, put-years-again-reads.Asked, put-years-again-reads.Learnt, write-lawful-reads.Asked, write-lawful-reads.Learnt, put-words-reads.Asked, put-words-reads.Learnt)
+called = (sui-words-reads.Asked, sui-words-reads.Learnt, year-words-reads.Asked, year-words-reads.Learnt, put-years-again-reads.Asked, put-years-again-reads.Learnt, write-both-reads.Asked, write-both-reads.Learnt)
 
 abbrev Start : Type 0
 Start = lts.Start called reads.Pre reads.Post
@@ -105,13 +105,15 @@ content-of c m = content (start-of c .args .leap .now) (take (2 * start-of c .ar
 fresh : (c : Put) {r : AgainRecord} (e : c .put-years-again .result ≡ Again r) → bytes-of (start-of c) ≡ bytesInto (content-of c (r .months)) (length (start-of c .args .file .now))
 fresh c e = let start = start-of c in let a = start .args in fresh-bytes (inputs-of start) (a .zone) (a .first) (a .n) (length (a .file .now)) (found-with c e .found) (suis-in-front c e) (months-in-front c e)
 
--- too few places for the years: 12, and where the bytes have no room either it is 12 too
-few-when : (c : Put) {r : AgainRecord} (e : c .put-years-again .result ≡ Again r) → length (start-of c .args .years .now) < r .years → (let start = start-of c in let a = start .args in Promises (bytes-of start) (listed-of start) (a .file .now) (a .years .now) (refused 12 0) (a .file .now) (a .years .now))
-few-when c {r} e h = go (bytes-of (start-of c)) refl
-  where
-    go : (w : Verdict (List ℕ)) → bytes-of (start-of c) ≡ w → (let start = start-of c in let a = start .args in Promises (bytes-of start) (listed-of start) (a .file .now) (a .years .now) (refused 12 0) (a .file .now) (a .years .now))
-    go (answered bytes) q = let start = start-of c in let a = start .args in few-places (bytes-of start) (listed-of start) (a .file .now) (a .years .now) (omega (arith, found-with c e .so-many-years)) q
-    go (refused number segment) q = let start = start-of c in let a = start .args in not-built (bytes-of start) (listed-of start) (a .file .now) (a .years .now) (q ∙ bytes-or-12 (content-of c (r .months)) (length (a .file .now)) (sym (fresh c e) ∙ q)) refl
+-- ---- where they are put, with so many months and so many years
+abbrev Told : Type 0
+Told = lts.After-put2 called reads.Pre reads.Post
+
+abbrev put-of : Told → Put
+put-of c = c .before .before .before .before .before
+
+abbrev is-put : (c : Told) → put-of c .put-years-again .result ≡ Again (c .put2 .given .0 .0)
+is-put c = c .put2 .given .1
 
 -- ---- the needs
 
@@ -142,98 +144,71 @@ enum-known-put c = search needs
 enum-known-put-2 : tie.Need-enum-known-put-2
 enum-known-put-2 c = search needs
 
-returns : tie.Need-returns
-returns c =
-    let put = c .before .before .before .before .before .before .before .before in
-    let told = c .before .before .before in
-    let e = told .put2 .given .1 in
-    let start = start-of put in
-    let a = start .args in
-    few-when put e (c .if1 .taken)
-
 mul-suis : tie.Need-mul-suis
-mul-suis c = record { fits = omega (arith, start-of (c .before .before .before .before .before .before .before .before) .pre .0 .begun .few-years) }
+mul-suis c = search needs
 
 array-share-prefix-suis : tie.Need-array-share-prefix-suis
-array-share-prefix-suis c = omega (arith, start-of (c .before .before .before .before .before .before .before .before) .pre .0 .begun .few-years)
+array-share-prefix-suis c = search needs
 
-slice-aggregate-write-lawful : tie.Need-slice-aggregate-write-lawful
-slice-aggregate-write-lawful c = let put = c .before .before .before .before .before .before .before .before .before in let e = c .before .before .before .before .put2 .given .1 in let start = start-of put in let a = start .args in sym (ap length (suis-in-front put e) ∙ sui-length (inputs-of start) (a .zone) (a .first) (a .n) (a .file .now) (found-with put e .found))
+slice-aggregate-write-both : tie.Need-slice-aggregate-write-both
+slice-aggregate-write-both c =
+    let told = c .before .before in
+    let put = put-of told in
+    let start = start-of put in
+    let a = start .args in
+    sym (ap length (suis-in-front put (is-put told)) ∙ sui-length (inputs-of start) (a .zone) (a .first) (a .n) (a .file .now) (found-with put (is-put told) .found))
 
 mul-months : tie.Need-mul-months
-mul-months c = record { fits = omega (arith, few-months (c .before .before .before .before .before .before .before .before .before .before) (c .before .before .before .before .before .put2 .given .1)) }
+mul-months c = let told = c .before .before .before in record { fits = omega (arith, few-months (put-of told) (is-put told)) }
 
 array-share-prefix-months : tie.Need-array-share-prefix-months
-array-share-prefix-months c = let few = few-months (c .before .before .before .before .before .before .before .before .before .before) (c .before .before .before .before .before .put2 .given .1) in omega (arith, few)
+array-share-prefix-months c = let told = c .before .before .before in let few = few-months (put-of told) (is-put told) in omega (arith, few)
 
-slice-aggregate-write-lawful-2 : tie.Need-slice-aggregate-write-lawful-2
-slice-aggregate-write-lawful-2 c = let put = c .before .before .before .before .before .before .before .before .before .before .before in let e = c .before .before .before .before .before .before .put2 .given .1 in let start = start-of put in let a = start .args in let found = found-with put e in sym (ap length (months-in-front put e) ∙ month-length (inputs-of start) (a .zone) (a .first) (a .n) (a .file .now) (found .found) (found .so-many-months))
+slice-aggregate-write-both-2 : tie.Need-slice-aggregate-write-both-2
+slice-aggregate-write-both-2 c =
+    let told = c .before .before .before .before in
+    let put = put-of told in
+    let start = start-of put in
+    let a = start .args in
+    let found = found-with put (is-put told) in
+    sym (ap length (months-in-front put (is-put told)) ∙ month-length (inputs-of start) (a .zone) (a .first) (a .n) (a .file .now) (found .found) (found .so-many-months))
 
-write-lawful-requires : tie.Need-write-lawful-requires
-write-lawful-requires c κs =
-    let put = c .before .before .before .before .before .before .before .before .before .before .before .before in
-    let e = c .before .before .before .before .before .before .before .put2 .given .1 in
+array-share-prefix-kept : tie.Need-array-share-prefix-kept
+array-share-prefix-kept c = let told = c .before .before .before .before in let few = few-years (put-of told) (is-put told) in omega (arith, few)
+
+slice-aggregate-write-both-3 : tie.Need-slice-aggregate-write-both-3
+slice-aggregate-write-both-3 c = let told = c .before .before .before .before .before in sym (ap length (years-in-front (put-of told) (is-put told)) ∙ found-with (put-of told) (is-put told) .so-many-years)
+
+write-both-requires : tie.Need-write-both-requires
+write-both-requires c κs =
+    let told = c .before .before .before .before .before .before .before in
+    let put = put-of told in
     let start = start-of put in
     let a = start .args in
     let b = start .pre .0 .begun in
-    words-lawful (inputs-of start) (a .zone) (a .first) (a .n) (a .file .now) (found-with put e .found) (suis-in-front put e) (months-in-front put e) (b .is-known) (b .suns-searched .zone-small) (b .some-years) (b .few-years)
+    words-lawful (inputs-of start) (a .zone) (a .first) (a .n) (a .file .now) (found-with put (is-put told) .found) (suis-in-front put (is-put told)) (months-in-front put (is-put told)) (b .is-known) (b .suns-searched .zone-small) (b .some-years) (b .few-years)
 
-enum-known-written : tie.Need-enum-known-written
-enum-known-written c = search needs
-
-enum-known-written-2 : tie.Need-enum-known-written-2
-enum-known-written-2 c = search needs
-
-array-share-prefix-kept : tie.Need-array-share-prefix-kept
-array-share-prefix-kept c = let few = few-years (c .before .before .before .before .before .before .before .before .before .before .before .before .before .before .before .before .before .before) (c .before .before .before .before .before .before .before .before .before .before .before .before .before .put2 .given .1) in omega (arith, few)
-
-slice-aggregate-put-words : tie.Need-slice-aggregate-put-words
-slice-aggregate-put-words c = let put = c .before .before .before .before .before .before .before .before .before .before .before .before .before .before .before .before .before .before .before in let e = c .before .before .before .before .before .before .before .before .before .before .before .before .before .before .put2 .given .1 in sym (ap length (years-in-front put e) ∙ found-with put e .so-many-years)
-
-put-words-requires : tie.Need-put-words-requires
-put-words-requires c κs = let put = c .before .before .before .before .before .before .before .before .before .before .before .before .before .before .before .before .before .before .before .before in let e = c .before .before .before .before .before .before .before .before .before .before .before .before .before .before .before .put2 .given .1 in let years = ap length (years-in-front put e) ∙ found-with put e .so-many-years in rw years (omega (arith, c .before .before .before .before .before .before .before .before .before .before .before .before .if1 .left))
-
-returns-2 : tie.Need-returns-2
-returns-2 c =
+returns : tie.Need-returns
+returns c =
     let put = c .before .before .before .before .before .before in
     let start = start-of put in
     let a = start .args in
     let none = years-refused (inputs-of start) (a .zone) (a .first) (a .before .now) (a .n) (sym (ap paperAgain (c .before .put .given .1)) ∙ at-years put) in
-    not-built (bytes-of start) (listed-of start) (a .file .now) (a .years .now) (fresh-refused (inputs-of start) (a .zone) (a .first) (a .n) (length (a .file .now)) none) refl
+    not-built (bytes-of start) (listed-of start) (a .file .now) (a .years .now) (fresh-refused (inputs-of start) (a .zone) (a .first) (a .n) (length (a .file .now)) none) refl refl
 
 same-length : tie.Need-same-length
 same-length c = search needs
 
-returns-3 : tie.Need-returns-3
-returns-3 c =
-    let put = c .before .before .before .before .before .before .before .before .before .before .before .before .before .before .before .before .before .before in
-    let e = c .before .before .before .before .before .before .before .before .before .before .before .before .before .put2 .given .1 in
-    let start = start-of put in
-    let a = start .args in
-    let w = bytesInto (content-of put (c .before .before .before .before .before .before .before .before .before .before .before .before .before .put2 .given .0 .0 .months)) (length (a .file .now)) in
-    let said = c .before .before .before .before .before .write-lawful .ensures in
-    let none = counted-refused w (sym (ap paperWritten (c .before .written .given .1)) ∙ said .0) in
-    not-built (bytes-of start) (listed-of start) (a .file .now) (a .years .now) (fresh put e ∙ none) (rw none at (said .1))
-
 same-length-2 : tie.Need-same-length-2
 same-length-2 c = search needs
 
-same-length-3 : tie.Need-same-length-3
-same-length-3 c = search needs
-
-returns-4 : tie.Need-returns-4
-returns-4 c =
-    let put = c .before .before .before .before .before .before .before .before .before .before .before .before .before .before .before .before .before .before .before .before .before .before in
-    let e = c .before .before .before .before .before .before .before .before .before .before .before .before .before .before .before .before .before .put2 .given .1 in
-    let start = start-of put in
-    let a = start .args in
-    let w = bytesInto (content-of put (c .before .before .before .before .before .before .before .before .before .before .before .before .before .before .before .before .before .put2 .given .0 .0 .months)) (length (a .file .now)) in
-    let said = c .before .before .before .before .before .before .before .before .before .write-lawful .ensures in
-    let bytes = counted-answered w (sym (ap paperWritten (c .before .before .before .before .before .written2 .given .1)) ∙ said .0) in
-    let years = years-in-front put e in
-    let found = found-with put e in
-    all-written (bytes-of start) (listed-of start) (a .file .now) (a .years .now) (omega (arith, c .before .before .before .before .before .before .before .before .before .before .before .before .before .before .if1 .left, found .so-many-years)) (fresh put e ∙ bytes .1 .0) (bytes .1 .1) (found .so-many-years) (rw (bytes .1 .0) at (said .1))
-    ((c .before .put-words .ensures) ∙ ap (λ (l : List ℤ). placed 0 l (a .years .now)) years ∙ ap (λ (k : ℕ). listed-of start ++ drop k (a .years .now)) (zero-add (length (listed-of start))))
+returns-2 : tie.Need-returns-2
+returns-2 c =
+    let made = c .before .before .before in
+    let told = made .before .before .before .before .before .before .before .before in
+    let put = put-of told in
+    let a = start-of put .args in
+    same-promises (fresh put (is-put told)) (sym (years-in-front put (is-put told))) (a .file .now) (a .years .now) (made .write-both .ensures)
 
 pub rebuild-from-spec : {M : Type 1} → statement M
 rebuild-from-spec =
@@ -247,22 +222,16 @@ rebuild-from-spec =
     put-years-again-requires
     enum-known-put
     enum-known-put-2
-    returns
     mul-suis
     array-share-prefix-suis
-    slice-aggregate-write-lawful
+    slice-aggregate-write-both
     mul-months
     array-share-prefix-months
-    slice-aggregate-write-lawful-2
-    write-lawful-requires
-    enum-known-written
-    enum-known-written-2
+    slice-aggregate-write-both-2
     array-share-prefix-kept
-    slice-aggregate-put-words
-    put-words-requires
-    returns-2
+    slice-aggregate-write-both-3
+    write-both-requires
+    returns
     same-length
-    returns-3
     same-length-2
-    same-length-3
-    returns-4)
+    returns-2)

@@ -15,7 +15,7 @@ use Rattle.kept_or_made.proofs.inner.days.days_words.Statement.{stateme
 use Rattle.kept_or_made.proofs.inner.days.days_words.Tie as tie
 use Rattle.kept_or_made.proofs.inner.days.days_words.Reads as reads
 use Rattle.kept_or_made.proofs.inner.days.days_words.Lts as lts
-use Rattle.kept_or_made.proofs.inner.days.put_words.Reads as put-words-reads
+use Rattle.whole.proofs.inner.put_words.Reads as put-words-reads
 use Rattle.whole.proofs.inner.signed.Reads as signed-reads
 
 signed-requires : tie.Need-signed-requires

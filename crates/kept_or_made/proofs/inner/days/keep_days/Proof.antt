@@ -29,7 +29,7 @@ use Rattle.kept_or_made.proofs.inner.days.keep_days.Tie as tie
 use Rattle.kept_or_made.proofs.inner.days.keep_days.Reads as reads
 use Rattle.kept_or_made.proofs.inner.days.keep_days.Lts as lts
 use Rattle.kept_or_made.proofs.inner.days.days_words.Reads as days-words-reads
-use Rattle.kept_or_made.proofs.inner.days.put_words.Reads as put-words-reads
+use Rattle.whole.proofs.inner.put_words.Reads as put-words-reads
 use Rattle.suis.proofs.inner.days_after.Reads as days-after-reads
 use Rattle.whole.proofs.inner.add.Reads as add-reads
 use Rattle.whole.proofs.inner.signed.Reads as signed-reads

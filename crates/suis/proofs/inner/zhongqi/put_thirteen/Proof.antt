@@ -10,8 +10,7 @@ use lib.Seq.{take-all, length-take-le}
 use mir.Syntax.{w64}
 use mir.Val.{SFits}
 use mir.Facts.{toZ-ofZ}
-use Rattle.whole.specs.Lists.{placed, placed-none, placed-length}
-use Rattle.suis.specs.theory.Zhongqi.{word-put}
+use Rattle.whole.specs.Lists.{placed, placed-none, placed-length, word-put}
 use Rattle.suis.proofs.inner.zhongqi.put_thirteen.Statement.{statement}
 use Rattle.suis.proofs.inner.zhongqi.put_thirteen.Tie as tie
 use Rattle.suis.proofs.inner.zhongqi.put_thirteen.Reads as reads

@@ -1,4 +1,4 @@
--- `kept_or_made::inner::days::put_words` meets its contract. The loop's invariant: the first i words are put. Assumes nothing.
+-- `whole::inner::put_words` meets its contract. The loop's invariant: the first i words are put. Assumes nothing.
 use mathlib.Core.Path.{_≡_, refl, sym, ap, _∙_}
 use mathlib.Core.List.{List}
 use Prim.Native.Nat.{ℕ, _+_, _-_, _≤_}
@@ -10,12 +10,11 @@ use lib.Seq.{take-all, length-take-le}
 use mir.Syntax.{w64}
 use mir.Val.{SFits}
 use mir.Facts.{toZ-ofZ}
-use Rattle.whole.specs.Lists.{placed, placed-none, placed-length}
-use Rattle.suis.specs.theory.Zhongqi.{word-put}
-use Rattle.kept_or_made.proofs.inner.days.put_words.Statement.{statement}
-use Rattle.kept_or_made.proofs.inner.days.put_words.Tie as tie
-use Rattle.kept_or_made.proofs.inner.days.put_words.Reads as reads
-use Rattle.kept_or_made.proofs.inner.days.put_words.Lts as lts
+use Rattle.whole.specs.Lists.{placed, placed-none, placed-length, word-put}
+use Rattle.whole.proofs.inner.put_words.Statement.{statement}
+use Rattle.whole.proofs.inner.put_words.Tie as tie
+use Rattle.whole.proofs.inner.put_words.Reads as reads
+use Rattle.whole.proofs.inner.put_words.Lts as lts
 
 abbrev Inv-loop : tie.InvT-loop
 Inv-loop words out₀ at n i₀ out i = (n ≡ length words) × ((i ≤ n) × (out ≡ placed at (take i words) out₀))
