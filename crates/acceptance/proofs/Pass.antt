@@ -11,7 +11,7 @@ use lib.Signed.{ltZ}
 use Rattle.whole.specs.Ranges.{Within}
 use Rattle.chebyshev.specs.Polynomials.{S}
 use Rattle.chebyshev.specs.Segment.{value, slope, InRange}
-use Rattle.chebyshev.specs.Theorems.{value-bound, in-range-exactly}
+use Rattle.analysis.specs.Theorems.{value-bound, in-range-exactly}
 use Rattle.refusals.specs.Verdict.{refused, accepted}
 use Rattle.refusals.specs.Search.{firstBad, firstBad-good, firstBad-bad, firstBad-end}
 use Rattle.series.specs.declared.Body.{Body}

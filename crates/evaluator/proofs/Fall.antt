@@ -10,7 +10,7 @@ use mir.Val.{SFits}
 use Rattle.whole.specs.Ranges.{Within, fits<, within, bounds}
 use Rattle.whole.specs.Solver.{⇑, ⇓, ring}
 use Rattle.chebyshev.specs.Segment.{coefficient, sum, InRange, slope}
-use Rattle.chebyshev.specs.theory.Bounds.{sum-within}
+use Rattle.analysis.specs.theory.Bounds.{sum-within}
 
 abbrev passed : List ℤ → ℕ → ℤ
 passed c count = sum 2 count (λ (n : ℕ). pos (n * n * natAbs (coefficient c n)))

@@ -10,7 +10,7 @@ use Rattle.whole.specs.Laws.{abs-+}
 use Rattle.whole.specs.Ranges.{Within, fit-hyp}
 use Rattle.whole.specs.Solver.{⇑, ⇓, ring}
 use Rattle.chebyshev.specs.Segment.{sum}
-use Rattle.chebyshev.specs.theory.Bounds.{sum-within}
+use Rattle.analysis.specs.theory.Bounds.{sum-within}
 
 -- what is held before the turn at n: the start and the terms below n
 pub record Running (end : ℕ) (start : ℤ) (f : ℕ → ℤ) (total : ℤ) (n : ℕ) : Type 0 where

@@ -11,7 +11,7 @@ use Rattle.whole.specs.Ranges.{Within, fits, fit-hyp, bounds}
 use Rattle.whole.specs.Solver.{⇑, ring}
 use Rattle.chebyshev.specs.Polynomials.{S, P}
 use Rattle.chebyshev.specs.Segment.{coefficient, sum, InRange, value}
-use Rattle.chebyshev.specs.theory.Bounds.{partial, partial-next, partial-small, P-next, P-small}
+use Rattle.analysis.specs.theory.Bounds.{partial, partial-next, partial-small, P-next, P-small}
 
 -- what is held before the turn at n: P(n-2), P(n-1) and the sum up to n - 1
 pub record Held (c : List ℤ) (x before here total : ℤ) (n : ℕ) : Type 0 where

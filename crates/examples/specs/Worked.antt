@@ -23,7 +23,7 @@ use Rattle.series.specs.Examples.{sun, moon}
 use Rattle.marks.specs.Marks.{Mark}
 use Rattle.inputs.specs.Inputs.{Inputs, inputs, anyEarly, inputsJudged}
 use Rattle.layout.specs.Layout.{sectionEnd, places}
-use Rattle.listing.specs.Listing.{lineOf, linesBy, linesOf, listed, listedWords, listedBytes, printed, listing}
+use Rattle.listed.specs.Listing.{lineOf, linesBy, linesOf, listed, listedWords, listedBytes, printed, listing}
 use Rattle.examples.specs.Listed.{sun-lists, moon-lists}
 
 -- the input: leap (-365, 32), a segment of the Sun and one of the Moon, each with its count and start

@@ -5,7 +5,7 @@ use Prim.Native.Nat.{ℕ}
 use lib.ListN.{length}
 use Rattle.refusals.specs.Verdict.{one-content}
 use Rattle.listing.specs.declared.Part.{Part}
-use Rattle.listing.specs.Listing.{listing}
+use Rattle.listed.specs.Listing.{listing}
 use Rattle.listing.specs.Parts.{partAnswer, partHeld}
 
 module _ (input : List ℕ) (from : ℕ) (room : List ℕ) where

@@ -1,7 +1,7 @@
 // The listing: from the input's bytes to its lines, in parts that fit the lent room.
 ghost use mathlib.Core.Path.{_≡_};
 ghost use lib.ListN.{length};
-ghost use Rattle.listing.specs.Listing.{listing};
+ghost use Rattle.listed.specs.Listing.{listing};
 ghost use Rattle.listing.specs.Parts.{partAnswer, partHeld};
 
 mod lines;

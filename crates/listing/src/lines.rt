@@ -12,7 +12,7 @@ ghost use Rattle.series.specs.Series.{series};
 ghost use Rattle.marks.specs.Answers.{noMark};
 ghost use Rattle.marks.specs.Listed.{firstReached, listedMarks};
 ghost use Rattle.inputs.specs.Known.{Ready};
-ghost use Rattle.listing.specs.Listing.{letter, lineOf};
+ghost use Rattle.listed.specs.Listing.{letter, lineOf};
 ghost use Rattle.listing.specs.Lines.{momentOf, lineText};
 
 // What a line shows.

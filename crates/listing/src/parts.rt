@@ -11,7 +11,7 @@ ghost use mathlib.Core.List.{[], _∷_};
 ghost use Rattle.text.specs.Text.{refusalLine};
 ghost use Rattle.inputs.specs.Inputs.{inputs};
 ghost use Rattle.inputs.specs.Known.{Known};
-ghost use Rattle.listing.specs.Listing.{linesOf, listed, listedWords, printed};
+ghost use Rattle.listed.specs.Listing.{linesOf, listed, listedWords, printed};
 ghost use Prim.Native.Nat.{_+_, _<_, _≤_};
 ghost use lib.ListN.{length, getD};
 ghost use Rattle.series.specs.declared.Body.the-variants.{Sun, Moon};

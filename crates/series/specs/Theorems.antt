@@ -9,8 +9,8 @@ use lib.IntN.{ℤ, pos, natAbs, _+ℤ_, _-ℤ_, _*ℤ_}
 use Rattle.whole.specs.Parts.{_≺_}
 use Rattle.whole.specs.Solver.{⇑, ⇓, ring}
 use Rattle.chebyshev.specs.Segment.{divisor, allowance}
-use Rattle.chebyshev.specs.theory.Between.{abs-below, abs-above}
-use Rattle.chebyshev.specs.Theorems.{divisor-positive, value-near-exact}
+use Rattle.analysis.specs.theory.Between.{abs-below, abs-above}
+use Rattle.analysis.specs.Theorems.{divisor-positive, value-near-exact}
 use Rattle.series.specs.declared.Body.{Body}
 use Rattle.series.specs.Bodies.{numbers, body-laws}
 use Rattle.series.specs.Series.{Series, lastSecond, InSpan, segmentAt, valueAt, exactAt}

@@ -6,7 +6,7 @@ use lib.Seq.{length-take-le}
 use mathlib.Core.List.{List}
 use mathlib.Core.Path.{_≡_, sym}
 use native.Mathlib.Omega.{arith}
-use Rattle.listing.specs.Listing.{listing}
+use Rattle.listed.specs.Listing.{listing}
 use Rattle.listing.specs.Parts.{partAnswer, partHeld}
 use Rattle.listing.specs.declared.Part.{Part}
 use Rattle.list_run.proofs.print_from.Statement.{statement}

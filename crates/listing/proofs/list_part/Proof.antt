@@ -8,7 +8,7 @@ use lib.Seq.{take-at}
 use mathlib.Core.List.{List, _++_}
 use mathlib.Core.Path.{_≡_, sym, ap, _∙_}
 use native.Mathlib.Omega.{arith}
-use Rattle.listing.specs.Listing.{listedBytes, listedWords, printed}
+use Rattle.listed.specs.Listing.{listedBytes, listedWords, printed}
 use Rattle.refusals.specs.Verdict.{refused}
 use Rattle.words.specs.Words.{words, words-length}
 use Rattle.listing.proofs.list_part.Statement.{statement}

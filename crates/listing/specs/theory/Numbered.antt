@@ -10,7 +10,7 @@ use Rattle.marks.specs.Marks.{Mark}
 use Rattle.marks.specs.Answers.{noMark}
 use Rattle.marks.specs.Listed.{listedMarks}
 use Rattle.inputs.specs.Inputs.{Inputs, sun, moon}
-use Rattle.listing.specs.Listing.{lineOf, linesOf}
+use Rattle.listed.specs.Listing.{lineOf, linesOf}
 
 nth-mapped : (f : Mark → List ℕ) (marks : List Mark) (k : ℕ) → k < length marks → getD (map f marks) k [] ≡ f (getD marks k noMark)
 nth-mapped f [] k h = absurd (omega arith)

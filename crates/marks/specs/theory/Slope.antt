@@ -11,7 +11,7 @@ use Rattle.whole.specs.Distance.{distanceFrom, lies-after}
 use Rattle.whole.specs.Floor.{floorDiv, floorDiv-ge, floorDiv-low}
 use Rattle.whole.specs.Solver.{⇑, ⇓, ring}
 use Rattle.chebyshev.specs.Segment.{divisor}
-use Rattle.chebyshev.specs.theory.Between.{values-rise}
+use Rattle.analysis.specs.theory.Between.{values-rise}
 use Rattle.series.specs.Bodies.{numbers}
 use Rattle.series.specs.Series.{Series, InSpan, valueAt, exactAt, lastSecond}
 use Rattle.series.specs.Acceptance.{Accepted}

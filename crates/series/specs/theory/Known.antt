@@ -14,7 +14,7 @@ use Rattle.whole.specs.Booleans.{neither, none-of}
 use Rattle.whole.specs.Solver.{lt-no, no-lt}
 use Rattle.refusals.specs.Verdict.{accepted, before-accepted, both-accepted, refuseWhen-accepted, accepted-when}
 use Rattle.refusals.specs.Search.{firstBad, firstBad-none, none-firstBad}
-use Rattle.chebyshev.specs.Theorems.{in-range-exactly}
+use Rattle.analysis.specs.Theorems.{in-range-exactly}
 use Rattle.series.specs.Bodies.{numbers}
 use Rattle.series.specs.Series.{Series, segment, segments}
 use Rattle.series.specs.Acceptance.{seriesJudged, judgedShape, Accepted, badRange, slow, rise, badJoint}

@@ -15,7 +15,7 @@ use Rattle.whole.specs.Solver.{⇑, ⇓, ring}
 use Rattle.whole.specs.Ranges.{Within}
 use Rattle.whole.specs.Distance.{distanceFrom, distance-is, between-fits}
 use Rattle.chebyshev.specs.Polynomials.{S}
-use Rattle.chebyshev.specs.Theorems.{value-bound}
+use Rattle.analysis.specs.Theorems.{value-bound}
 use Rattle.series.specs.declared.Body.{Body}
 use Rattle.series.specs.Bodies.{numbers, BodyLaws, body-laws}
 use Rattle.series.specs.Series.{Series, segments, segmentLength, segmentStart, lastSecond, InSpan, segmentAt, placeAt, valueAt}

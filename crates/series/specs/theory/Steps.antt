@@ -17,7 +17,7 @@ use Rattle.whole.specs.Distance.{distanceFrom, distance-next}
 use Rattle.whole.specs.Floor.{div-step, div-wrap}
 use Rattle.chebyshev.specs.Polynomials.{S}
 use Rattle.chebyshev.specs.Segment.{value, exact, divisor}
-use Rattle.chebyshev.specs.Theorems.{exact-rises, value-rises, value-rises-little}
+use Rattle.analysis.specs.Theorems.{exact-rises, value-rises, value-rises-little}
 use Rattle.series.specs.Bodies.{numbers, BodyLaws, body-laws}
 use Rattle.series.specs.Series.{Series, segment, segments, segmentLength, lastSecond, InSpan, valueAt, exactAt}
 use Rattle.series.specs.Acceptance.{Accepted, rise}

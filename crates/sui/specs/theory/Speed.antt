@@ -15,7 +15,7 @@ use Rattle.whole.specs.Distance.{distanceFrom, distance-next, next as one-furth
 use Rattle.whole.specs.Floor.{div-step, div-wrap}
 use Rattle.chebyshev.specs.Polynomials.{S}
 use Rattle.chebyshev.specs.Segment.{value}
-use Rattle.chebyshev.specs.Theorems.{value-rises-little}
+use Rattle.analysis.specs.Theorems.{value-rises-little}
 use Rattle.series.specs.Bodies.{numbers, BodyLaws, body-laws}
 use Rattle.series.specs.Series.{Series, segment, segments, segmentLength, lastSecond, InSpan, valueAt}
 use Rattle.series.specs.Acceptance.{Accepted, rise}

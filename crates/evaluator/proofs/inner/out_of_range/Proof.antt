@@ -11,7 +11,7 @@ use lib.Dec.{ltb}
 use lib.IntN.{ℤ, natAbs}
 use Rattle.whole.specs.Ranges.{back}
 use Rattle.chebyshev.specs.Segment.{coefficient, limit, larger, outOfRange}
-use Rattle.chebyshev.specs.theory.Ranges.{larger-passes, larger-found, larger-end}
+use Rattle.analysis.specs.theory.Ranges.{larger-passes, larger-found, larger-end}
 use Rattle.evaluator.proofs.inner.out_of_range.Statement.{statement}
 use Rattle.evaluator.proofs.inner.out_of_range.Tie as tie
 use Rattle.evaluator.proofs.inner.out_of_range.Reads as reads

@@ -12,7 +12,7 @@ use Rattle.whole.specs.Ranges.{back}
 use Rattle.chebyshev.specs.Segment.{coefficient, InRange, sum}
 use Rattle.evaluator.proofs.Read.{coefficient-back}
 use Rattle.evaluator.proofs.Running.{Running, running-start, running-turn, running-end, running-fits}
-use Rattle.chebyshev.specs.theory.Bounds.{square-small}
+use Rattle.analysis.specs.theory.Bounds.{square-small}
 use Rattle.whole.specs.Solver.{⇑, ring}
 use Rattle.chebyshev.specs.EndValues.{squareSum}
 use Rattle.evaluator.proofs.inner.square_sum.Statement.{statement}

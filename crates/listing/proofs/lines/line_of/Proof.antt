@@ -23,7 +23,7 @@ use Rattle.marks.specs.Answers.{noMark}
 use Rattle.inputs.specs.Inputs.{second}
 use Rattle.inputs.specs.theory.Converted.{nth-readable}
 use Rattle.listing.specs.Lines.{momentOf, momentLine}
-use Rattle.listing.specs.Listing.{letter, lineOf}
+use Rattle.listed.specs.Listing.{letter, lineOf}
 use Rattle.listing.proofs.lines.line_of.Statement.{statement}
 use Rattle.listing.proofs.lines.line_of.Tie as tie
 use Rattle.listing.proofs.lines.line_of.Reads as reads

@@ -7,7 +7,7 @@ use mathlib.Core.Path.{_≡_, sym, ap, _∙_}
 use native.Mathlib.Omega.{arith}
 use Rattle.marks.specs.Listed.{listedMarks}
 use Rattle.inputs.specs.Inputs.{Inputs, inputs, sun, moon}
-use Rattle.listing.specs.Listing.{linesOf}
+use Rattle.listed.specs.Listing.{linesOf}
 use Rattle.listing.specs.theory.Numbered.{lines-count, sun-line, moon-line}
 use Rattle.listing.proofs.parts.line_at.Statement.{statement}
 use Rattle.listing.proofs.parts.line_at.Tie as tie

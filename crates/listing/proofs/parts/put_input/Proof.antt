@@ -4,7 +4,7 @@ use mathlib.Core.Path.{_≡_, sym, ap, _∙_}
 use Rattle.refusals.specs.Verdict.{Verdict, answered, refusal, accepted, accepted-is, refused-first, accepted-first}
 use Rattle.inputs.specs.Inputs.{Inputs, inputs, inputsJudged}
 use Rattle.inputs.specs.Theorems.{known}
-use Rattle.listing.specs.Listing.{linesOf, listed, printed}
+use Rattle.listed.specs.Listing.{linesOf, listed, printed}
 use Rattle.listing.proofs.parts.put_input.Statement.{statement}
 use Rattle.listing.proofs.parts.put_input.Tie as tie
 

@@ -14,7 +14,7 @@ use Rattle.marks.specs.theory.Nth.{marks-few}
 use Rattle.inputs.specs.Inputs.{Inputs, inputs, sun, moon}
 use Rattle.listing.specs.declared.lines.Line.{Line}
 use Rattle.listing.specs.Lines.{lineText}
-use Rattle.listing.specs.Listing.{linesOf}
+use Rattle.listed.specs.Listing.{linesOf}
 use Rattle.listing.specs.theory.Numbered.{lines-count}
 use Rattle.listing.proofs.Printed.{Printed, start, next, room-length, stop-full, stop-end}
 use Rattle.listing.proofs.parts.put_lines.Statement.{statement}

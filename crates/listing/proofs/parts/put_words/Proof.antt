@@ -3,7 +3,7 @@ use borrow.Author.Needs.{needs}
 use mathlib.Core.Path.{sym, ap, _∙_}
 use Rattle.layout.specs.Layout.{inputsAt, paperPlaces}
 use Rattle.layout.specs.theory.Sections.{places-inside}
-use Rattle.listing.specs.Listing.{listed, listedWords, printed}
+use Rattle.listed.specs.Listing.{listed, listedWords, printed}
 use Rattle.refusals.specs.Verdict.{refused-then, answered-then}
 use Rattle.listing.proofs.parts.put_words.Statement.{statement}
 use Rattle.listing.proofs.parts.put_words.Tie as tie

@@ -13,7 +13,7 @@ use mir.Facts.{toZ-ofZ}
 use Rattle.whole.specs.Ranges.{fit-hyp}
 use Rattle.chebyshev.specs.Polynomials.{S}
 use Rattle.chebyshev.specs.Segment.{value, InRange}
-use Rattle.chebyshev.specs.Theorems.{value-bound}
+use Rattle.analysis.specs.Theorems.{value-bound}
 use Rattle.series.specs.Series.{segment, segments}
 use Rattle.series.specs.declared.Body.{Body}
 use Rattle.series.specs.Bodies.{numbers}

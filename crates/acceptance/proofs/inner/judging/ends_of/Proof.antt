@@ -11,7 +11,7 @@ use Rattle.whole.specs.Solver.{⇑, ring}
 use Rattle.chebyshev.specs.Polynomials.{S}
 use Rattle.chebyshev.specs.Segment.{value, InRange}
 use Rattle.chebyshev.specs.EndValues.{evenSum, oddSum, squareSum, firstValue, lastValue}
-use Rattle.chebyshev.specs.Theorems as theorems
+use Rattle.analysis.specs.Theorems as theorems
 use Rattle.series.specs.declared.Body.{Body}
 use Rattle.series.specs.Bodies.{numbers, body-laws}
 use Rattle.series.specs.theory.Span.{last-within}

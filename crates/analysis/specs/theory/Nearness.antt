@@ -11,10 +11,10 @@ use Rattle.whole.specs.Parts.{_≺_, →<}
 use Rattle.whole.specs.Laws.{abs-*, abs-+, abs--}
 use Rattle.whole.specs.Solver.{⇑, ⇓, ring}
 use Rattle.whole.specs.Floor.{floorDiv, floorMod, floorDiv-floorMod, floorMod-lt}
 use Rattle.chebyshev.specs.Polynomials.{P, Q}
 use Rattle.chebyshev.specs.Segment.{sum}
-use Rattle.chebyshev.specs.theory.Rounding.{error, error-within, P-split}
-use Rattle.chebyshev.specs.theory.Sums.{weights, sum-linear, sum-first, sum-weighed}
+use Rattle.analysis.specs.theory.Rounding.{error, error-within, P-split}
+use Rattle.analysis.specs.theory.Sums.{weights, sum-linear, sum-first, sum-weighed}
 
 -- s¹² is s^(12-m)·s^m
 pub power-apart : (s m : ℕ) → m ≤ 12 → s ^ 12 ≡ s ^ (12 - m) * s ^ m

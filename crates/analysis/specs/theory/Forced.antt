@@ -8,8 +8,8 @@ use lib.IntN.{ℤ, pos, negℤ, natAbs, _+ℤ_, _-ℤ_, _*ℤ_}
 use lib.Pow.{pow-add}
 use Rattle.whole.specs.Laws.{abs-*, abs-+}
 use Rattle.whole.specs.Solver.{⇑, ⇓, ring}
 use Rattle.chebyshev.specs.Polynomials.{W}
-use Rattle.chebyshev.specs.theory.Pell.{W-within}
+use Rattle.analysis.specs.theory.Pell.{W-within}
 
 -- ---- sums of the first n terms
 unfoldable pub total : (ℕ → ℤ) → ℕ → ℤ

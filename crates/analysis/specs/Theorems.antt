@@ -14,18 +14,18 @@ use Rattle.whole.specs.Laws.{abs-+}
 use Rattle.whole.specs.Solver.{⇑, ⇓, ring}
 use Rattle.whole.specs.Floor.{floorDiv}
 use Rattle.whole.specs.Ranges.{Within}
 use Rattle.chebyshev.specs.Polynomials.{S, P, Q, W}
 use Rattle.chebyshev.specs.Segment.{coefficient, value, exact, divisor, allowance, outOfRange, InRange, slope}
 use Rattle.chebyshev.specs.EndValues.{evenSum, oddSum, squareSum, firstValue, lastValue}
-use Rattle.chebyshev.specs.theory.Pell.{Q-within, W-within}
-use Rattle.chebyshev.specs.theory.Forced.{Forced, forced-within}
-use Rattle.chebyshev.specs.theory.Rounding.{P-within}
-use Rattle.chebyshev.specs.theory.Bounds.{partial, partial-small, floor-small, even-sum-small, odd-sum-small, square-sum-small, weights-small}
-use Rattle.chebyshev.specs.theory.Ends.{first-is, last-is}
-use Rattle.chebyshev.specs.theory.Ranges.{in-range, none-larger}
-use Rattle.chebyshev.specs.theory.Nearness.{near}
-use Rattle.chebyshev.specs.theory.Steps.{rises, rises-little}
-use Rattle.chebyshev.specs.theory.Between.{abs-below, abs-above, values-rise, values-rise-little}
+use Rattle.analysis.specs.theory.Pell.{Q-within, W-within}
+use Rattle.analysis.specs.theory.Forced.{Forced, forced-within}
+use Rattle.analysis.specs.theory.Rounding.{P-within}
+use Rattle.analysis.specs.theory.Bounds.{partial, partial-small, floor-small, even-sum-small, odd-sum-small, square-sum-small, weights-small}
+use Rattle.analysis.specs.theory.Ends.{first-is, last-is}
+use Rattle.analysis.specs.theory.Ranges.{in-range, none-larger}
+use Rattle.analysis.specs.theory.Nearness.{near}
+use Rattle.analysis.specs.theory.Steps.{rises, rises-little}
+use Rattle.analysis.specs.theory.Between.{abs-below, abs-above, values-rise, values-rise-little}
 
 -- |Q(n)| ≤ Sⁿ
 pub Q-bound : {x : ℤ} → Within S x → (n : ℕ) → natAbs (Q (pos S) x n) ≤ S ^ n

@@ -9,12 +9,12 @@ use lib.IntN.{ℤ, pos, negℤ, natAbs, _+ℤ_, _-ℤ_, _*ℤ_}
 use Rattle.whole.specs.Parts.{_⩽_, →≤}
 use Rattle.whole.specs.Laws.{abs-*, abs→, *-nonneg}
 use Rattle.whole.specs.Solver.{⇑, ⇓, ring}
 use Rattle.chebyshev.specs.Polynomials.{Q}
 use Rattle.chebyshev.specs.Segment.{sum}
-use Rattle.chebyshev.specs.theory.Pell.{Q-within}
-use Rattle.chebyshev.specs.theory.Forced.{Forced, forced-within}
-use Rattle.chebyshev.specs.theory.Sums.{weights, sum-linear, sum-first, sum-weighed, sum-pos}
-use Rattle.chebyshev.specs.theory.Nearness.{power-apart}
+use Rattle.analysis.specs.theory.Pell.{Q-within}
+use Rattle.analysis.specs.theory.Forced.{Forced, forced-within}
+use Rattle.analysis.specs.theory.Sums.{weights, sum-linear, sum-first, sum-weighed, sum-pos}
+use Rattle.analysis.specs.theory.Nearness.{power-apart}
 
 module _ (s x y : ℤ) where
   -- the divided difference of Q

@@ -10,11 +10,11 @@ use Rattle.whole.specs.Laws.{abs-+, abs-*-le, abs→}
 use Rattle.whole.specs.Solver.{⇓, ring}
 use Rattle.whole.specs.Floor.{floorDiv}
 use Rattle.whole.specs.Ranges.{Within}
 use Rattle.chebyshev.specs.Polynomials.{S, P}
 use Rattle.chebyshev.specs.Segment.{coefficient, sum, allowance, InRange, slope}
 use Rattle.chebyshev.specs.EndValues.{evenSum, oddSum, squareSum}
-use Rattle.chebyshev.specs.theory.Rounding.{P-within}
-use Rattle.chebyshev.specs.theory.Sums.{weights, sum-pos}
+use Rattle.analysis.specs.theory.Rounding.{P-within}
+use Rattle.analysis.specs.theory.Sums.{weights, sum-pos}
 
 -- |P(n)| ≤ S + 78 for n ≤ 13
 pub P-small : {x : ℤ} → Within S x → (n : ℕ) → n ≤ 13 → Within 66355278 (P S x n)

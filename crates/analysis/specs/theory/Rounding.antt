@@ -8,9 +8,9 @@ use lib.IntN.{ℤ, pos, negℤ, natAbs, _+ℤ_, _-ℤ_, _*ℤ_}
 use Rattle.whole.specs.Laws.{abs-*, abs-+, abs-neg}
 use Rattle.whole.specs.Solver.{⇑, ⇓, ring}
 use Rattle.whole.specs.Floor.{floorDiv, floorMod, floorDiv-floorMod, floorMod-lt}
 use Rattle.chebyshev.specs.Polynomials.{P, Q}
-use Rattle.chebyshev.specs.theory.Pell.{power, abs-power, power-pos, Q-within}
-use Rattle.chebyshev.specs.theory.Forced.{Forced, forced-within}
+use Rattle.analysis.specs.theory.Pell.{power, abs-power, power-pos, Q-within}
+use Rattle.analysis.specs.theory.Forced.{Forced, forced-within}
 
 module _ (s : ℕ) (x : ℤ) where
   -- the remainder dropped by the step to P(n+2)

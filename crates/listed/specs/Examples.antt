@@ -22,7 +22,7 @@ use Rattle.marks.specs.Marks.{Mark}
 use Rattle.inputs.specs.Inputs.{Inputs, inputsJudged}
 use Rattle.layout.specs.declared.inner.Places.{Places}
 use Rattle.layout.specs.Layout.{sectionEnd, places, inputsAt}
-use Rattle.listing.specs.Listing.{lineOf, linesBy, listed, listedWords, listedBytes}
+use Rattle.listed.specs.Listing.{lineOf, linesBy, listed, listedWords, listedBytes}
 
 abbrev isPlaces : ℕ → ℕ → Verdict Places → Bool
 isPlaces sun moon (answered p) = eqb (p .sun) sun && eqb (p .moon) moon

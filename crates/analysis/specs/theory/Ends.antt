@@ -8,10 +8,10 @@ use lib.Dec.{lit<}
 use lib.IntN.{ℤ, pos, negℤ, _+ℤ_, _-ℤ_, _*ℤ_}
 use Rattle.whole.specs.Solver.{⇑, ⇓, ring}
 use Rattle.whole.specs.Floor.{floorDiv, floorMod, floorDiv-floorMod, floorMod-lt, floorDiv-unique, floorDiv-add}
 use Rattle.chebyshev.specs.Polynomials.{S, P}
 use Rattle.chebyshev.specs.Segment.{coefficient, sum, value}
 use Rattle.chebyshev.specs.EndValues.{evenSum, oddSum, squareSum, firstValue, lastValue}
-use Rattle.chebyshev.specs.theory.Sums.{sum-linear}
+use Rattle.analysis.specs.theory.Sums.{sum-linear}
 
 -- ---- a sum by pairs: c1, then c2 and c3, ..
 pairs : (f : ℕ → ℤ) (m : ℕ) → sum 1 (suc (2 * m)) f ≡ f 1 +ℤ (sum 1 m (λ (i : ℕ). f (2 * i)) +ℤ sum 1 m (λ (i : ℕ). f (2 * i + 1)))

@@ -1,0 +1,2 @@
+pub mod theory
+pub mod Theorems
