@@ -1,4 +1,6 @@
-// Whether two lists are the same. Every bit is compared, whatever the first ones say: the loop has no other way out, so that many words are compared at once.
+// Whether two lists are the same. Words are compared by runs as long as these are the same; of what is left, and of bytes, every bit is gathered, whatever the first
+// ones say.
+use super::runs::same_run;
 ghost use mathlib.Core.Path.{_≡_};
 ghost use Rattle.whole.specs.Evaluated.{sameNumbers, sameWords};
 
@@ -9,8 +11,11 @@ pub fn same_words(a: &[i64], b: &[i64]) -> bool
     if b.len() != n {
         return false;
     }
-    let mut differing: i64 = 0;
     let mut i: usize = 0;
+    while 896 <= n - i && same_run(a, b, i) {
+        i += 896;
+    }
+    let mut differing: i64 = 0;
     while i < n {
         differing = differing | (a[i] ^ b[i]);
         i += 1;

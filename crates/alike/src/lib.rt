@@ -1,2 +1,3 @@
 // Whether two lists are the same, words or bytes.
 pub mod inner;
+mod runs;
