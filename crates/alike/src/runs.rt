@@ -5,18 +5,29 @@ ghost use mathlib.Core.Bool.{true};
 ghost use Prim.Native.Nat.{_+_, _≤_, _<_};
 ghost use lib.IntN.{pos};
 ghost use lib.ListN.{length};
-ghost use Rattle.alike.specs.Runs.{FourAt, SixteenAt, HalfAt, RunAt};
+ghost use Rattle.alike.specs.Runs.{SameAt, FourAt, SixteenAt, HalfAt, RunAt};
 
-// The bits in which four words differ.
+// The bits in which two words differ.
+fn differ(a: &[i64], b: &[i64], i: usize) -> i64
+    requires { ⌜ i < length (now a) ⌝ }
+    requires { ⌜ i < length (now b) ⌝ }
+    ensures { λ r. ⌜ (r ≡ pos 0 → SameAt (now (a .entry)) (now (b .entry)) i) ⌝ }
+{
+    a[i] ^ b[i]
+}
+
+// The bits in which four differ.
 fn four_differ(a: &[i64], b: &[i64], i: usize) -> i64
     requires { ⌜ i + 6 < length (now a) ⌝ }
     requires { ⌜ i + 6 < length (now b) ⌝ }
     ensures { λ r. ⌜ (r ≡ pos 0 → FourAt (now (a .entry)) (now (b .entry)) i) ⌝ }
 {
-    ((a[i] ^ b[i]) | (a[i + 2] ^ b[i + 2])) | ((a[i + 4] ^ b[i + 4]) | (a[i + 6] ^ b[i + 6]))
+    let front = differ(a, b, i) | differ(a, b, i + 2);
+    let back = differ(a, b, i + 4) | differ(a, b, i + 6);
+    front | back
 }
 
-// The bits in which sixteen words differ.
+// The bits in which sixteen differ.
 fn sixteen_differ(a: &[i64], b: &[i64], i: usize) -> i64
     requires { ⌜ i + 30 < length (now a) ⌝ }
     requires { ⌜ i + 30 < length (now b) ⌝ }
