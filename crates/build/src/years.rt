@@ -18,7 +18,7 @@ ghost use Rattle.inputs.specs.Inputs.{inputs};
 ghost use Rattle.refusals.specs.Verdict.{answered};
 ghost use Rattle.months.specs.declared.Sui.{Sui};
 ghost use Rattle.sui.specs.Sui.{suiOfYear};
-ghost use Rattle.suis.specs.Ahead.{YearAhead};
+ghost use Rattle.suis.specs.Ahead.{YearIn};
 ghost use Rattle.built.specs.Build.{suisFrom, suiWords, monthWords};
 ghost use Rattle.build.specs.theory.Put.{paperYear, monthsOf, yearWords, sui-months, putWhen, paperYears, monthsIn};
 ghost use Rattle.build.specs.theory.Walk.{Walks};
@@ -47,15 +47,15 @@ fn put_year(
     moons: TurnList,
     year: i64,
     place: usize,
+    j: usize,
+    from: usize,
     solstices: &[i64],
     newmoons: &[i64],
     zhongqi: &[i64],
-    j: usize,
-    from: usize,
     suis: &mut [i64],
     months: &mut [i64],
 ) -> YearAnswer
-    requires { ⌜ YearAhead (inputs (now leap) (sunstart .0) (now sun) (moonstart .0) (now moon)) zone suns moons year place (now solstices) (now newmoons) (now zhongqi) ⌝ }
+    requires { ⌜ YearIn (inputs (now leap) (sunstart .0) (now sun) (moonstart .0) (now moon)) zone suns moons year place j from (now solstices) (now newmoons) (now zhongqi) ⌝ }
     requires { ⌜ j < 128 ⌝ }
     requires { ⌜ from ≤ 1664 ⌝ }
     requires { ⌜ 2 * j + 2 ≤ length (now suis) ⌝ }
@@ -75,6 +75,8 @@ fn put_year(
         moons,
         year,
         place,
+        j,
+        from,
         solstices,
         newmoons,
         zhongqi,
@@ -131,11 +133,11 @@ pub fn put_years(
             moons,
             year,
             place + j,
-            &solstices[j..],
-            &newmoons[from..],
-            &zhongqi[13 * j..13 * j + 13],
             j,
             from,
+            solstices,
+            newmoons,
+            zhongqi,
             suis,
             months,
         );

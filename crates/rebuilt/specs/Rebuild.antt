@@ -70,15 +70,15 @@ rebuiltBy given built kept places = given then λ y. newFileBy (built (y .first)
 abbrev pub mostBytes : ℕ
 mostBytes = 16140
 
-module _ (old new : Inputs) (zone : ℤ) where
-  abbrev pub given : List ℕ → Verdict Years
-  given = givenBy (λ first count. bytesBuilt old zone first count mostBytes)
+abbrev pub given : Inputs → ℤ → List ℕ → Verdict Years
+given old zone = givenBy (λ first count. bytesBuilt old zone first count mostBytes)
 
+module _ (old new : Inputs) (zone : ℤ) where
   abbrev pub kept : ℤ → Bool
   kept year = isKept (suiDays old zone year) (suiDays new zone year)
 
   abbrev pub rebuilt : List ℕ → ℕ → ℕ → Verdict NewFile
-  rebuilt file room places = rebuiltBy (given file) (λ first count. bytesBuilt new zone first count room) kept places
+  rebuilt file room places = rebuiltBy (given old zone file) (λ first count. bytesBuilt new zone first count room) kept places
 
   -- behind the judgement of the old file and of the inputs
   abbrev pub newFile : ℤ → ℕ → ℕ → ℕ → Verdict NewFile

@@ -41,14 +41,14 @@ use Rattle.rebuilt.specs.theory.Records.{words-in-turn, fewer-found, own
 -- ---- "a file of the same suis, equal byte for byte to a fresh build"
 pub record Fresh (old new : Inputs) (zone : ℤ) (file : List ℕ) (room : ℕ) (n : NewFile) : Type 0 where
   pub years : Years
-  pub is-given : given old new zone file ≡ answered years
+  pub is-given : given old zone file ≡ answered years
   pub is-fresh : bytesBuilt new zone (years .first) (pos (years .count)) room ≡ answered (n .bytes)
   pub are-kept : keptBy (kept old new zone) (years .first) (years .count) ≡ n .years
 
 pub rebuilt-is-fresh : (old new : Inputs) (zone : ℤ) (file : List ℕ) (room places : ℕ) {n : NewFile} → rebuilt old new zone file room places ≡ answered n → Fresh old new zone file room n
 unfolding rebuiltBy newFileBy
 rebuilt-is-fresh old new zone file room places {n} e =
-    let given-first = then-answered (given old new zone file) _ n e in
+    let given-first = then-answered (given old zone file) _ n e in
     let y = given-first .0 in
     let listed = keptBy (kept old new zone) (y .first) (y .count) in
     let built = then-answered (bytesBuilt new zone (y .first) (pos (y .count)) room) _ n (given-first .2) in
@@ -66,16 +66,16 @@ rebuilt-is-fresh old new zone file room places {n} e =
 abbrev pub oldBuild : Inputs → ℤ → ℤ → ℤ → Verdict (List ℕ)
 oldBuild old zone first count = bytesBuilt old zone first count mostBytes
 
-pub given-means : (old new : Inputs) (zone : ℤ) (file : List ℕ) (y : Years) → given old new zone file ≡ answered y ↔ Given (oldBuild old zone) file y
-given-means old new zone file y = (given-tells (oldBuild old zone) file, given-when (oldBuild old zone) file)
+pub given-means : (old : Inputs) (zone : ℤ) (file : List ℕ) (y : Years) → given old zone file ≡ answered y ↔ Given (oldBuild old zone) file y
+given-means old zone file y = (given-tells (oldBuild old zone) file, given-when (oldBuild old zone) file)
 
 -- .. and what a build gives is lawful, of the years that it was asked for: these are the years of a file exactly if the build of the old inputs for them gives it ..
-pub given-years-exactly : (old new : Inputs) (zone : ℤ) → Within 1000 zone → (file : List ℕ) (y : Years) → given old new zone file ≡ answered y ↔ (bytesBuilt old zone (y .first) (pos (y .count)) mostBytes ≡ answered file)
-given-years-exactly old new zone small file y = (λ g. given-tells (oldBuild old zone) file g .is-built, λ b. built-is-given old zone (y .first) (pos (y .count)) b small)
+pub given-years-exactly : (old : Inputs) (zone : ℤ) → Within 1000 zone → (file : List ℕ) (y : Years) → given old zone file ≡ answered y ↔ (bytesBuilt old zone (y .first) (pos (y .count)) mostBytes ≡ answered file)
+given-years-exactly old zone small file y = (λ g. given-tells (oldBuild old zone) file g .is-built, λ b. built-is-given old zone (y .first) (pos (y .count)) b small)
 
 -- .. and a file is given exactly if that build gives it for some first year and count of suis
-pub given-exactly : (old new : Inputs) (zone : ℤ) → Within 1000 zone → (file : List ℕ) → ((y : Years) × (given old new zone file ≡ answered y)) ↔ ((first count : ℤ) × (bytesBuilt old zone first count mostBytes ≡ answered file))
-given-exactly old new zone small file = (
+pub given-exactly : (old : Inputs) (zone : ℤ) → Within 1000 zone → (file : List ℕ) → ((y : Years) × (given old zone file ≡ answered y)) ↔ ((first count : ℤ) × (bytesBuilt old zone first count mostBytes ≡ answered file))
+given-exactly old zone small file = (
   λ g. (g .0 .first, pos (g .0 .count), given-tells (oldBuild old zone) file (g .1) .is-built),
   λ b. (record { first = b .0; count = natAbs (b .1) }, built-is-given old zone (b .0) (b .1) (b .2) small),
 )
@@ -181,9 +181,9 @@ pub record OldRecords (old : Inputs) (zone : ℤ) (file : List ℕ) (y : Years) 
   pub is-read : fileOf file ≡ answered content
   pub in-file : (j : ℕ) → j < y .count → numbersIn (times (suiAt suis j .count) monthFields) file (monthsAt (entryCount content) (suiCount content) + 4 + 9 * monthsBefore (content .suis) j) ≡ wordsAt suis j
 
-pub old-records-in-file : (old new : Inputs) (zone : ℤ) → Within 1000 zone → (file : List ℕ) {y : Years} → given old new zone file ≡ answered y → OldRecords old zone file y
+pub old-records-in-file : (old : Inputs) (zone : ℤ) → Within 1000 zone → (file : List ℕ) {y : Years} → given old zone file ≡ answered y → OldRecords old zone file y
 unfolding contentBy
-old-records-in-file old new zone small file {y} e =
+old-records-in-file old zone small file {y} e =
     let first = y .first in
     let n = y .count in
     let b = built-is-read old zone first (pos n) mostBytes (given-tells (oldBuild old zone) file e .is-built) small in

@@ -2,10 +2,10 @@
 use mathlib.Core.Path.{_≡_}
 use mathlib.Core.Bool.{Bool, cond, not, _&&_, _||_}
 use mathlib.Core.List.{List, [], _++_}
-use Prim.Native.Nat.{ℕ, zero, suc, _+_, _-_, _≤_, _<_}
+use Prim.Native.Nat.{ℕ, zero, suc, _+_, _-_, _*_, _≤_, _<_}
 use lib.Dec.{eqb, leb, ltb}
 use lib.IntN.{ℤ, pos, _-ℤ_}
-use lib.ListN.{length, getD}
+use lib.ListN.{length, getD, take, drop}
 use lib.Signed.{ltZ}
 use Rattle.whole.specs.Tabulated.{tabulate}
 use Rattle.refusals.specs.Verdict.{Verdict, answered, refused, refusal, refuseWhen, _before_}
@@ -45,6 +45,13 @@ pub record YearAhead (i : Inputs) (zone : ℤ) (suns moons : TurnList) (year : �
   pub moons-ahead : Ahead (i .leap) (moon i) zone (turnsBy (i .leap) (moon i) zone (turnDay (i .leap) (sun i) zone place) - 1) 15 newmoons
   pub thirteen : length zhongqi ≡ 13
   pub are-zhongqi : suc place < turnsOf (sun i) → zhongqi ≡ zhongqiFrom (i .leap) (sun i) zone (turnIndexOf (sun i) place)
+
+-- the same in the lists of a walk from sui to sui: its solstices from place j on, its new moons from place `from` on, and the zhongqi days of sui j
+pub record YearIn (i : Inputs) (zone : ℤ) (suns moons : TurnList) (year : ℤ) (place j from : ℕ) (solstices newmoons zhongqi : List ℤ) : Type 0 where
+  pub solstices-reach : j ≤ length solstices
+  pub moons-reach : from ≤ length newmoons
+  pub zhongqi-reach : 13 * j + 13 ≤ length zhongqi
+  pub ahead : YearAhead i zone suns moons year place (drop j solstices) (drop from newmoons) (take 13 (drop (13 * j) zhongqi))
 
 -- how many of so many there are from a place on
 unfoldable pub fewer : ℕ → ℕ → ℕ → ℕ

@@ -3,33 +3,31 @@ use month_rule::inner::days_of;
 use month_rule::inner::no_days;
 use months::DaysAnswer;
 use one_sui::inner::eve;
-use one_sui::inner::zhongqi_day;
 use series::Body;
 use times::Day;
 use times::Second;
 use turns::inner::TurnList;
 use turns::inner::turns_by;
 use whole::inner::add;
+use whole::inner::in_range;
 ghost use mathlib.Core.Path.{_≡_};
 ghost use mathlib.Core.Bool.{_&&_};
-ghost use Prim.Native.Nat.{_+_, _-_, _*_, _≤_, _<_};
+ghost use Prim.Native.Nat.{_-_, _<_};
 ghost use lib.IntN.{pos, _+ℤ_};
 ghost use lib.ListN.{length, getD};
-ghost use lib.Signed.{_≤ℤ_, _<ℤ_};
-ghost use Rattle.whole.specs.Lists.{placed};
+ghost use lib.Signed.{_≤ℤ_};
 ghost use Rattle.whole.specs.Ranges.{Within};
 ghost use Rattle.series.specs.declared.Body.the-variants.{Sun, Moon};
 ghost use Rattle.series.specs.Series.{series};
-ghost use Rattle.marks.specs.Listed.{firstReached, lastReached};
-ghost use Rattle.inputs.specs.Inputs.{dayOfMark};
+ghost use Rattle.inputs.specs.Inputs.{inputs};
 ghost use Rattle.inputs.specs.Known.{Ready};
 ghost use Rattle.months.specs.Months.{daysOf};
 ghost use Rattle.months.specs.Answers.{daysAnswer};
 ghost use Rattle.turns.specs.Listed.{turnDays, turnsBy, turnsOf};
 ghost use Rattle.turns.specs.Searched.{Searched};
-ghost use Rattle.sui.specs.theory.Found.{zhongqiFrom};
+ghost use Rattle.sui.specs.Sui.{suiDays};
 ghost use Rattle.sui.specs.theory.Solstices.{eve};
-ghost use Rattle.suis.specs.Ahead.{Ahead, oneMore, crowded};
+ghost use Rattle.suis.specs.Ahead.{Ahead, YearAhead, oneMore, crowded};
 
 // Whether day j of the list is not after `day`, and no further one is.
 fn one_more(days: &[i64], j: usize, day: i64) -> bool
@@ -106,4 +104,32 @@ pub fn days_within(
         return too_many(leap, start, coefs, zone, turns, last);
     }
     days_of(&newmoons[..15], zhongqi)
+}
+
+// The days of the sui of a year whose first solstice stands at a place, from the days of solstices, new moons and zhongqi ahead of it.
+pub fn days_from(
+    leap: &[i64],
+    sunstart: Second,
+    sun: &[i64],
+    moonstart: Second,
+    moon: &[i64],
+    zone: i64,
+    suns: TurnList,
+    moons: TurnList,
+    year: i64,
+    place: usize,
+    solstices: &[i64],
+    newmoons: &[i64],
+    zhongqi: &[i64],
+) -> DaysAnswer
+    requires { ⌜ YearAhead (inputs (now leap) (sunstart .0) (now sun) (moonstart .0) (now moon)) zone suns moons year place (now solstices) (now newmoons) (now zhongqi) ⌝ }
+    ensures { λ r. ⌜ r ≡ daysAnswer (suiDays (inputs (now (leap .entry)) (sunstart .0) (now (sun .entry)) (moonstart .0) (now (moon .entry))) zone year) ⌝ }
+{
+    if !in_range(1700, 2500, year) {
+        return no_days(refusals::NO_SUI);
+    }
+    if !one_in_each(solstices, year) {
+        return no_days(refusals::NO_SUI);
+    }
+    days_within(leap, moonstart, moon, zone, moons, newmoons, zhongqi)
 }

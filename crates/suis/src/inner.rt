@@ -1,7 +1,5 @@
 // For builds of many suis: where the first one begins, the days ahead of it, and the sui of each year. The zone is in minutes.
-use super::finding::days_within;
-use super::finding::one_in_each;
-use month_rule::inner::no_days;
+use super::finding::days_from;
 use months::DaysAnswer;
 use months::SuiAnswer;
 use one_sui::inner::eve;
@@ -30,7 +28,7 @@ ghost use Rattle.months.specs.Answers.{daysAnswer, suiAnswer};
 ghost use Rattle.turns.specs.Listed.{turnDay};
 ghost use Rattle.turns.specs.Searched.{Searched};
 ghost use Rattle.sui.specs.Sui.{suiDays, suiOfYear};
-ghost use Rattle.suis.specs.Ahead.{Ahead, YearAhead, zhongqiOf, paperBegin, begun, fewer};
+ghost use Rattle.suis.specs.Ahead.{Ahead, YearIn, zhongqiOf, paperBegin, begun, fewer};
 
 pub mod zhongqi;
 
@@ -148,7 +146,8 @@ pub fn zhongqi_ahead(
     }
 }
 
-// The days of the sui of a year whose first solstice stands at a place, from the days of solstices, new moons and zhongqi ahead of it.
+// The days of the sui of a year whose first solstice stands at a place, from the days ahead that a walk over the years holds: of the solstices those from place j on,
+// of the new moons those from place `from` on, and the zhongqi of sui j.
 pub fn days_after(
     leap: &[i64],
     sunstart: Second,
@@ -160,23 +159,33 @@ pub fn days_after(
     moons: TurnList,
     year: i64,
     place: usize,
+    j: usize,
+    from: usize,
     solstices: &[i64],
     newmoons: &[i64],
     zhongqi: &[i64],
 ) -> DaysAnswer
-    requires { ⌜ YearAhead (inputs (now leap) (sunstart .0) (now sun) (moonstart .0) (now moon)) zone suns moons year place (now solstices) (now newmoons) (now zhongqi) ⌝ }
+    requires { ⌜ YearIn (inputs (now leap) (sunstart .0) (now sun) (moonstart .0) (now moon)) zone suns moons year place j from (now solstices) (now newmoons) (now zhongqi) ⌝ }
     ensures { λ r. ⌜ r ≡ daysAnswer (suiDays (inputs (now (leap .entry)) (sunstart .0) (now (sun .entry)) (moonstart .0) (now (moon .entry))) zone year) ⌝ }
 {
-    if !in_range(1700, 2500, year) {
-        return no_days(refusals::NO_SUI);
-    }
-    if !one_in_each(solstices, year) {
-        return no_days(refusals::NO_SUI);
-    }
-    days_within(leap, moonstart, moon, zone, moons, newmoons, zhongqi)
+    days_from(
+        leap,
+        sunstart,
+        sun,
+        moonstart,
+        moon,
+        zone,
+        suns,
+        moons,
+        year,
+        place,
+        &solstices[j..],
+        &newmoons[from..],
+        &zhongqi[13 * j..13 * j + 13],
+    )
 }
 
-// The sui of a year whose first solstice stands at a place, from the days of solstices, new moons and zhongqi ahead of it.
+// The sui of that year.
 pub fn sui_after(
     leap: &[i64],
     sunstart: Second,
@@ -188,11 +197,13 @@ pub fn sui_after(
     moons: TurnList,
     year: i64,
     place: usize,
+    j: usize,
+    from: usize,
     solstices: &[i64],
     newmoons: &[i64],
     zhongqi: &[i64],
 ) -> SuiAnswer
-    requires { ⌜ YearAhead (inputs (now leap) (sunstart .0) (now sun) (moonstart .0) (now moon)) zone suns moons year place (now solstices) (now newmoons) (now zhongqi) ⌝ }
+    requires { ⌜ YearIn (inputs (now leap) (sunstart .0) (now sun) (moonstart .0) (now moon)) zone suns moons year place j from (now solstices) (now newmoons) (now zhongqi) ⌝ }
     ensures { λ r. ⌜ r ≡ suiAnswer (suiOfYear (inputs (now (leap .entry)) (sunstart .0) (now (sun .entry)) (moonstart .0) (now (moon .entry))) zone year) ⌝ }
 {
     let found = days_after(
@@ -206,6 +217,8 @@ pub fn sui_after(
         moons,
         year,
         place,
+        j,
+        from,
         solstices,
         newmoons,
         zhongqi,

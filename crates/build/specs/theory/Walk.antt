@@ -23,7 +23,7 @@ use Rattle.sui.specs.theory.Found.{zhongqiFrom}
 use Rattle.sui.specs.theory.Solstices.{eve}
 use Rattle.suis.specs.declared.inner.Places.{Places}
 use Rattle.sui.specs.Sui.{suiOfYear}
-use Rattle.suis.specs.Ahead.{Ahead, YearAhead, solsticesBefore}
+use Rattle.suis.specs.Ahead.{Ahead, YearAhead, YearIn, solsticesBefore}
 use Rattle.suis.specs.theory.Begun.{BegunAt}
 use Rattle.suis.specs.theory.Lookups.{ahead-drop}
 use Rattle.suis.specs.theory.Next.{next-year}
@@ -97,28 +97,29 @@ module _ (i : Inputs) (zone : ℤ) (suns moons : TurnList) (places : Places) (fi
     pub sui-length : length (suiWords first (r .done)) ≡ 2 * j
     sui-length = length-sui-words first (r .done) ∙ ap (λ (k : ℕ). 2 * k) so-many
 
-    pub solstices-reach : j < n → {solstices newmoons zhongqi : List ℤ} → Walks i zone suns moons places first n solstices newmoons zhongqi → j ≤ length solstices
-    solstices-reach h walks = reaches (walks .solstices-ahead) j (omega arith) (omega (arith, r .at-place, by-small (turnDay (i .leap) (sun i) zone) (eve (first +ℤ pos j -ℤ pos 1)) (turnsOf (sun i))))
-
-    pub moons-reach : j < n → {solstices newmoons zhongqi : List ℤ} → Walks i zone suns moons places first n solstices newmoons zhongqi → from ≤ length newmoons
-    moons-reach h walks = reaches (walks .moons-ahead) from (omega (arith, r .few)) (omega (arith, r .at-moon, by-small (turnDay (i .leap) (moon i) zone) (turnDay (i .leap) (sun i) zone (places .solstice + j)) (turnsOf (moon i))))
-
     -- what finding the sui of year j asks
-    pub year-ahead : j < n → {solstices newmoons zhongqi : List ℤ} → Walks i zone suns moons places first n solstices newmoons zhongqi → YearAhead i zone suns moons (first +ℤ pos j) (places .solstice + j) (drop j solstices) (drop from newmoons) (take 13 (drop (13 * j) zhongqi))
-    year-ahead h {solstices} {newmoons} {zhongqi} walks =
+    pub year-in : j < n → {solstices newmoons zhongqi : List ℤ} → Walks i zone suns moons places first n solstices newmoons zhongqi → YearIn i zone suns moons (first +ℤ pos j) (places .solstice + j) j from solstices newmoons zhongqi
+    year-in h {solstices} {newmoons} {zhongqi} walks =
         let here = r .at-place in
         let moon-here = r .at-moon in
+        let solstices-there : j ≤ length solstices = reaches (walks .solstices-ahead) j (omega arith) (omega (arith, here, by-small (turnDay (i .leap) (sun i) zone) (eve (first +ℤ pos j -ℤ pos 1)) (turnsOf (sun i)))) in
+        let moons-there : from ≤ length newmoons = reaches (walks .moons-ahead) from (omega (arith, r .few)) (omega (arith, moon-here, by-small (turnDay (i .leap) (moon i) zone) (turnDay (i .leap) (sun i) zone (places .solstice + j)) (turnsOf (moon i)))) in
         let month-eleven : places .newmoon + from ≡ turnsBy (i .leap) (moon i) zone (turnDay (i .leap) (sun i) zone (places .solstice + j)) - 1 = omega arith in
         record {
-          is-known = b .is-known;
-          suns-searched = b .suns-searched;
-          moons-searched = b .moons-searched;
-          is-place = here;
-          solstices-ahead = ahead-drop (walks .solstices-ahead) j 3 (solstices-reach h walks) (omega arith);
-          some-moons = omega arith;
-          moons-ahead = rw (← month-eleven) (ahead-drop (walks .moons-ahead) from 15 (moons-reach h walks) (omega (arith, r .few)));
-          thirteen = length-take-le 13 (drop (13 * j) zhongqi) (omega (arith, length-drop (13 * j) zhongqi, walks .zhongqi-room));
-          are-zhongqi = walks .zhongqi-ahead j h;
+          solstices-reach = solstices-there;
+          moons-reach = moons-there;
+          zhongqi-reach = omega (arith, walks .zhongqi-room);
+          ahead = record {
+            is-known = b .is-known;
+            suns-searched = b .suns-searched;
+            moons-searched = b .moons-searched;
+            is-place = here;
+            solstices-ahead = ahead-drop (walks .solstices-ahead) j 3 solstices-there (omega arith);
+            some-moons = omega arith;
+            moons-ahead = rw (← month-eleven) (ahead-drop (walks .moons-ahead) from 15 moons-there (omega (arith, r .few)));
+            thirteen = length-take-le 13 (drop (13 * j) zhongqi) (omega (arith, length-drop (13 * j) zhongqi, walks .zhongqi-room));
+            are-zhongqi = walks .zhongqi-ahead j h;
+          };
         }
 
     -- the sui of year j is found

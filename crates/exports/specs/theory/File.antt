@@ -158,7 +158,7 @@ module _ (old new : Inputs) (zone : ℤ) (file : List ℕ) (room places : ℕ) w
       let y = fresh .years in
       let few = built-within-room new zone (y .first) (pos (y .count)) mostBytes (all .0 .bytes) (most-bytes-are-enough new zone (y .first) (pos (y .count)) room (fresh .is-fresh) small) in
       let listed = few-years (kept old new zone) (y .first) (y .count) in
-      let is-given = given-means old new zone file y .0 (fresh .is-given) in
+      let is-given = given-means old zone file y .0 (fresh .is-given) in
       let many = years-few file {y = y} (rw (is-given .is-read) (ap answered (is-given .years-are))) .1 in
       let same : record { bytes = length (all .0 .bytes); years = length (all .0 .years) } ≡ r = answers-apart (all .2) in
       omega (arith, few, listed, many, ap length (fresh .are-kept), ap (λ (r : Rebuilt). r .bytes) same, ap (λ (r : Rebuilt). r .years) same))

@@ -71,9 +71,11 @@ pub fn keep_days(
             moons,
             year,
             place + j,
-            &solstices[j..],
-            &newmoons[from..],
-            &zhongqi[13 * j..13 * j + 13],
+            j,
+            from,
+            solstices,
+            newmoons,
+            zhongqi,
         );
         let days = found.days;
         let words = days_words(days);

@@ -25,7 +25,7 @@ ghost use Rattle.inputs.specs.Inputs.{inputs};
 ghost use Rattle.months.specs.declared.SuiDays.{SuiDays};
 ghost use Rattle.months.specs.Months.{suiOf, twelveOrThirteen};
 ghost use Rattle.sui.specs.Sui.{suiDays};
-ghost use Rattle.suis.specs.Ahead.{YearAhead};
+ghost use Rattle.suis.specs.Ahead.{YearIn};
 ghost use Rattle.rebuilt.specs.Rebuild.{daysWords};
 ghost use Rattle.kept_or_made.specs.Again.{paperPut, paperAgain, againCount, againMonths, putAnswered, monthsAtPlace, yearCount, yearMonths, yearListed, yearAgain};
 
@@ -121,20 +121,20 @@ pub fn year_again(
     moons: TurnList,
     year: i64,
     place: usize,
+    j: usize,
+    from: usize,
     solstices: &[i64],
     newmoons: &[i64],
     zhongqi: &[i64],
     before: &[i64],
     old: &[u8],
     at: usize,
-    j: usize,
-    from: usize,
     years: usize,
     suis: &mut [i64],
     months: &mut [i64],
     kept: &mut [i64],
 ) -> AgainAnswer
-    requires { ⌜ YearAhead (inputs (now leap) (sunstart .0) (now sun) (moonstart .0) (now moon)) zone suns moons year place (now solstices) (now newmoons) (now zhongqi) ⌝ }
+    requires { ⌜ YearIn (inputs (now leap) (sunstart .0) (now sun) (moonstart .0) (now moon)) zone suns moons year place j from (now solstices) (now newmoons) (now zhongqi) ⌝ }
     requires { ⌜ ((days : SuiDays) → suiDays (inputs (now leap) (sunstart .0) (now sun) (moonstart .0) (now moon)) zone year ≡ answered days → sameWords (now before) (daysWords days) ≡ true → at + 9 * days .months ≤ length (now old)) ⌝ }
     requires { ⌜ j < 128 ⌝ }
     requires { ⌜ from ≤ 1664 ⌝ }
@@ -157,6 +157,8 @@ pub fn year_again(
         moons,
         year,
         place,
+        j,
+        from,
         solstices,
         newmoons,
         zhongqi,

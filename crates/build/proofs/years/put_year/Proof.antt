@@ -42,7 +42,7 @@ is-found : (c : lts.After-enum-told called reads.Pre reads.Post) → sui-of (c .
 is-found c = let found = c .before .before in sui-answered (found .sui-after .result) (sui-of (found .before)) (at-sui found) (c .enum-told .given .1)
 
 thirteen-at-most : (c : lts.After-enum-told called reads.Pre reads.Post) → c .before .before .sui-after .result .sui .count ≤ 13
-thirteen-at-most c = let start = c .before .before .before in next-year (inputs-of start) (start .args .zone) (start .pre .0 .is-known) (start .args .year) (is-found c) .thirteen-at-most
+thirteen-at-most c = let start = c .before .before .before in next-year (inputs-of start) (start .args .zone) (start .pre .0 .ahead .is-known) (start .args .year) (is-found c) .thirteen-at-most
 
 has-its-months : (c : lts.After-enum-told called reads.Pre reads.Post) → c .before .before .sui-after .result .sui .count ≤ length (c .before .before .sui-after .result .sui .months)
 has-its-months c = let start = c .before .before .before in sui-has-its-months (inputs-of start) (start .args .zone) (start .args .year) (is-found c)

@@ -5,8 +5,7 @@ use Prim.Native.Nat.{ℕ, _+_, _-_, _*_, _≤_, _<_}
 use native.Mathlib.Omega.{arith}
 use borrow.Author.Needs.{needs}
 use lib.IntN.{ℤ, pos, _+ℤ_}
-use lib.ListN.{length, take, drop, length-drop}
-use lib.Seq.{take-all}
+use lib.ListN.{length}
 use mir.Syntax.{w64}
 use mir.Val.{ofZ, toZ}
 use mir.Facts.{toZ-ofZ}
@@ -18,12 +17,12 @@ use Rattle.months.specs.theory.Kept as Kept
 use Rattle.months.specs.declared.Sui.{Sui}
 use Rattle.turns.specs.Listed.{turns-few}
 use Rattle.sui.specs.Sui.{suiOfYear}
-use Rattle.suis.specs.Ahead.{YearAhead}
+use Rattle.suis.specs.Ahead.{YearIn}
 use Rattle.suis.specs.theory.Next.{next-year}
 use Rattle.build.specs.declared.years.YearAnswer.the-variants.{Year, Refused}
 use Rattle.build.specs.theory.Put.{paperYear, monthsOf, monthsIn}
 use Rattle.build.specs.theory.Answered.{year-refused, year-found}
-use Rattle.build.specs.theory.Walk.{AtYear, walk-starts, walk-goes-on, walk-ends, walk-stops, year-ahead, solstices-reach, moons-reach, sui-room, month-room}
+use Rattle.build.specs.theory.Walk.{AtYear, walk-starts, walk-goes-on, walk-ends, walk-stops, year-in, sui-room, month-room}
 use Rattle.build.proofs.years.put_years.Statement.{statement}
 use Rattle.build.proofs.years.put_years.Tie as tie
 use Rattle.build.proofs.years.put_years.Reads as reads
@@ -74,22 +73,9 @@ at-signed c = back (c .signed .result) (c .signed .ok) ∙ c .signed .ensures
 at-added : (c : lts.After-add called reads.Pre reads.Post Inv-loop μ-loop) → toZ w64 (ofZ w64 (c .add .result)) ≡ c .before .before .before .before .args .first +ℤ pos (c .before .before .before .loop .j)
 at-added c = back (c .add .result) (c .add .ok) ∙ (rw (toZ-ofZ (c .before .before .before .before .fits .first), at-signed (c .before)) at (c .add .ensures))
 
--- the days ahead of it
-solstices-there : (c : Loop) → c .loop .j < c .before .args .n → c .loop .j ≤ length (c .before .args .solstices .now)
-solstices-there c h = let a = c .before .args in let t = at-turn c in solstices-reach (inputs-of (c .before)) (a .zone) (a .suns) (a .moons) (t .places) (a .first) (a .n) (t .walks .begun) (t .walked .reached) h (t .walks)
-
-moons-there : (c : Loop) → c .loop .j < c .before .args .n → c .loop .from ≤ length (c .before .args .newmoons .now)
-moons-there c h = let a = c .before .args in let t = at-turn c in moons-reach (inputs-of (c .before)) (a .zone) (a .suns) (a .moons) (t .places) (a .first) (a .n) (t .walks .begun) (t .walked .reached) h (t .walks)
-
-ahead-of : (c : Loop) → c .loop .j < c .before .args .n → (let a = c .before .args in YearAhead (inputs-of (c .before)) (a .zone) (a .suns) (a .moons) (a .first +ℤ pos (c .loop .j)) (a .places .solstice + c .loop .j) (drop (c .loop .j) (a .solstices .now)) (drop (c .loop .from) (a .newmoons .now)) (take 13 (drop (13 * c .loop .j) (a .zhongqi .now))))
-ahead-of c h =
-    let a = c .before .args in
-    let t = at-turn c in
-    rw (t .is-place) at (year-ahead (inputs-of (c .before)) (a .zone) (a .suns) (a .moons) (t .places) (a .first) (a .n) (t .walks .begun) (t .walked .reached) h (t .walks))
-
--- the rest of a list, as a part of it
-rest : (l : List ℤ) (k : ℕ) → take (length l - k) (drop k l) ≡ drop k l
-rest l k = take-all (length l - k) (drop k l) (omega (arith, length-drop k l))
+-- what finding its sui asks
+year-of : (c : Loop) → c .loop .j < c .before .args .n → (let a = c .before .args in YearIn (inputs-of (c .before)) (a .zone) (a .suns) (a .moons) (a .first +ℤ pos (c .loop .j)) (a .places .solstice + c .loop .j) (c .loop .j) (c .loop .from) (a .solstices .now) (a .newmoons .now) (a .zhongqi .now))
+year-of c h = let a = c .before .args in let t = at-turn c in rw (t .is-place) at (year-in (inputs-of (c .before)) (a .zone) (a .suns) (a .moons) (t .places) (a .first) (a .n) (t .walks .begun) (t .walked .reached) h (t .walks))
 
 -- the room for it
 rooms : (c : Loop) → (length (c .loop .suis) ≡ length (c .before .args .suis .now)) × (length (c .loop .months) ≡ length (c .before .args .months .now))
@@ -105,17 +91,17 @@ abbrev Put : Type 0
 Put = lts.After-put-year called reads.Pre reads.Post Inv-loop μ-loop
 
 abbrev loop-of : Put → Loop
-loop-of c = c .before .before .before .before .before .before .before .before .before
+loop-of c = c .before .before .before .before .before .before
 
 abbrev taken-of : (c : Put) → loop-of c .loop .j < loop-of c .before .args .n
-taken-of c = c .before .before .before .before .before .before .before .before .loop-test .taken
+taken-of c = c .before .before .before .before .before .loop-test .taken
 
 -- the sui of year j
 abbrev sui-of : Loop → Verdict Sui
 sui-of c = suiOfYear (inputs-of (c .before)) (c .before .args .zone) (c .before .args .first +ℤ pos (c .loop .j))
 
 says : (c : Put) → (paperYear (c .put-year .result) ≡ monthsOf (sui-of (loop-of c)))
-says c = (rw (toZ-ofZ (loop-of c .before .fits .zone), at-added (c .before .before .before .before .before .before)) at (c .put-year .ensures)) .0
+says c = (rw (toZ-ofZ (loop-of c .before .fits .zone), at-added (c .before .before .before)) at (c .put-year .ensures)) .0
 
 -- refused, by why
 refused-by : (c : Put) {r : Refusal} → c .put-year .result ≡ Refused r → sui-of (loop-of c) ≡ refusal r
@@ -147,59 +133,13 @@ add-put-year c =
     let a = loop .before .args in
     record { fits = omega (arith, few loop, t .is-place, t .walks .solstices-ahead .inside, turns-few (sun (inputs-of (loop .before))) (t .walks .begun .is-known .sun-ready .is-accepted)) }
 
-mul-put-year : tie.Need-mul-put-year Inv-loop μ-loop
-mul-put-year c = record { fits = omega (arith, few (c .before .before .before)) }
-
-sub-put-year : tie.Need-sub-put-year Inv-loop μ-loop
-sub-put-year c = solstices-there (c .before .before .before) (c .before .before .loop-test .taken)
-
-part-put-year-start : tie.Need-part-put-year-start Inv-loop μ-loop
-part-put-year-start c = solstices-there (c .before .before .before) (c .before .before .loop-test .taken)
-
-part-put-year-end : tie.Need-part-put-year-end Inv-loop μ-loop
-part-put-year-end c = omega arith
-
-mul-put-year-2 : tie.Need-mul-put-year-2 Inv-loop μ-loop
-mul-put-year-2 c = record { fits = omega (arith, few (c .before .before .before .before)) }
-
-sub-put-year-2 : tie.Need-sub-put-year-2 Inv-loop μ-loop
-sub-put-year-2 c = moons-there (c .before .before .before .before) (c .before .before .before .loop-test .taken)
-
-part-put-year-start-2 : tie.Need-part-put-year-start-2 Inv-loop μ-loop
-part-put-year-start-2 c = moons-there (c .before .before .before .before) (c .before .before .before .loop-test .taken)
-
-part-put-year-end-2 : tie.Need-part-put-year-end-2 Inv-loop μ-loop
-part-put-year-end-2 c = omega arith
-
-mul-put-year-3 : tie.Need-mul-put-year-3 Inv-loop μ-loop
-mul-put-year-3 c = record { fits = omega (arith, few (c .before .before .before .before .before)) }
-
-mul-put-year-4 : tie.Need-mul-put-year-4 Inv-loop μ-loop
-mul-put-year-4 c = record { fits = omega (arith, few (c .before .before .before .before .before)) }
-
-add-put-year-2 : tie.Need-add-put-year-2 Inv-loop μ-loop
-add-put-year-2 c = record { fits = omega (arith, few (c .before .before .before .before .before)) }
-
-mul-put-year-5 : tie.Need-mul-put-year-5 Inv-loop μ-loop
-mul-put-year-5 c = record { fits = omega (arith, few (c .before .before .before .before .before)) }
-
-sub-put-year-3 : tie.Need-sub-put-year-3 Inv-loop μ-loop
-sub-put-year-3 c = omega arith
-
-part-put-year-start-3 : tie.Need-part-put-year-start-3 Inv-loop μ-loop
-part-put-year-start-3 c = omega arith
-
-part-put-year-end-3 : tie.Need-part-put-year-end-3 Inv-loop μ-loop
-part-put-year-end-3 c = let loop = c .before .before .before .before .before in omega (arith, c .before .before .before .before .loop-test .taken, at-turn loop .walks .zhongqi-room)
-
 put-year-requires : tie.Need-put-year-requires Inv-loop μ-loop
 put-year-requires c κs =
-    let turn = c .before .before .before .before .before .before .before in
+    let turn = c .before .before .before .before in
     let loop = turn .before in
-    let a = loop .before .args in
-    let thirteen : 13 * loop .loop .j + 13 - 13 * loop .loop .j ≡ 13 = omega arith in
-    rw (toZ-ofZ (loop .before .fits .zone), at-added (c .before .before .before .before .before), rest (a .solstices .now) (loop .loop .j), rest (a .newmoons .now) (loop .loop .from), thirteen)
-    (ahead-of loop (turn .loop-test .taken), (omega (arith, few loop, turn .loop-test .taken), (omega (arith, few loop, turn .loop-test .taken), (omega (arith, few loop, turn .loop-test .taken, rooms loop, loop .before .pre .1 .0), omega (arith, few loop, turn .loop-test .taken, rooms loop, loop .before .pre .1 .1)))))
+    let taken = turn .loop-test .taken in
+    rw (toZ-ofZ (loop .before .fits .zone), at-added (c .before .before))
+    (year-of loop taken, (omega (arith, few loop, taken), (omega (arith, few loop, taken), (omega (arith, few loop, taken, rooms loop, loop .before .pre .1 .0), omega (arith, few loop, taken, rooms loop, loop .before .pre .1 .1)))))
 
 enum-known-put : tie.Need-enum-known-put Inv-loop μ-loop
 enum-known-put c = search needs
@@ -208,13 +148,13 @@ same-length : tie.Need-same-length Inv-loop μ-loop
 same-length c =
     let put = c .before .before .before .before .before in
     let loop = loop-of put in
-    ap length (rw (toZ-ofZ (loop .before .fits .zone), at-added (put .before .before .before .before .before .before), refused-by put (c .before .put .given .1)) at (put .put-year .ensures .1 .0)) ∙ rooms loop .0
+    ap length (rw (toZ-ofZ (loop .before .fits .zone), at-added (put .before .before .before), refused-by put (c .before .put .given .1)) at (put .put-year .ensures .1 .0)) ∙ rooms loop .0
 
 same-length-2 : tie.Need-same-length-2 Inv-loop μ-loop
 same-length-2 c =
     let put = c .before .before .before .before .before in
     let loop = loop-of put in
-    ap length (rw (toZ-ofZ (loop .before .fits .zone), at-added (put .before .before .before .before .before .before), refused-by put (c .before .put .given .1)) at (put .put-year .ensures .1 .1)) ∙ rooms loop .1
+    ap length (rw (toZ-ofZ (loop .before .fits .zone), at-added (put .before .before .before), refused-by put (c .before .put .given .1)) at (put .put-year .ensures .1 .1)) ∙ rooms loop .1
 
 returns : tie.Need-returns Inv-loop μ-loop
 returns c =
@@ -251,7 +191,7 @@ loop-again c =
     let t = at-turn loop in
     let turn = taken-of put in
     let found = found-with put (c .before .put2 .given .1) in
-    let words = rw (toZ-ofZ (start .fits .zone), at-added (put .before .before .before .before .before .before), found .1) at (put .put-year .ensures .1) in
+    let words = rw (toZ-ofZ (start .fits .zone), at-added (put .before .before .before), found .1) at (put .put-year .ensures .1) in
     let goes-on = walk-goes-on (inputs-of start) (a .zone) (a .suns) (a .moons) (t .places) (a .first) (a .n) (t .walks .begun) (a .suis .now) (a .months .now) (t .walked) (found .1) (omega (arith, turn, start .pre .1 .0)) (omega (arith, turn, few loop, start .pre .1 .1)) (words .0) (words .1) in
     rw (toZ-ofZ (start .fits .zone), toZ-ofZ (start .fits .first)) (record { places = t .places; walks = t .walks; is-place = t .is-place; walked = rw (found .2) at goes-on; in-turn = omega (arith, turn) })
 
@@ -279,21 +219,6 @@ put-years-spec =
     signed-requires
     add-requires
     add-put-year
-    mul-put-year
-    sub-put-year
-    part-put-year-start
-    part-put-year-end
-    mul-put-year-2
-    sub-put-year-2
-    part-put-year-start-2
-    part-put-year-end-2
-    mul-put-year-3
-    mul-put-year-4
-    add-put-year-2
-    mul-put-year-5
-    sub-put-year-3
-    part-put-year-start-3
-    part-put-year-end-3
     put-year-requires
     enum-known-put
     same-length

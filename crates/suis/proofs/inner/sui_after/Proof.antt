@@ -68,7 +68,7 @@ sui-of-requires c κs =
     let found = at-found c in
     let zhongqi = zhongqiDays i zone (found .first) (found .last) in (
       rw (toZ-ofZ (start .fits .year)) (year-small (start .args .year) (found .in-range)),
-      (found-twelve (newMoonDays i zone) zhongqi (found .by-rule), found-small (newMoonDays i zone) zhongqi (found .by-rule) (new-moons-small i zone (start .pre .is-known) (start .pre .suns-searched .zone-small))),
+      (found-twelve (newMoonDays i zone) zhongqi (found .by-rule), found-small (newMoonDays i zone) zhongqi (found .by-rule) (new-moons-small i zone (start .pre .ahead .is-known) (start .pre .ahead .suns-searched .zone-small))),
     )
 
 returns-2 : tie.Need-returns-2

@@ -6,8 +6,7 @@ use Prim.Native.Nat.{ℕ, _+_, _-_, _*_, _≤_, _<_}
 use native.Mathlib.Omega.{arith}
 use borrow.Author.Needs.{needs}
 use lib.IntN.{ℤ, pos, _+ℤ_}
-use lib.ListN.{length, take, drop, length-drop}
-use lib.Seq.{take-all}
+use lib.ListN.{length}
 use mir.Syntax.{w64}
 use mir.Val.{ofZ, toZ}
 use mir.Facts.{toZ-ofZ}
@@ -20,8 +19,8 @@ use Rattle.months.specs.Answers.{daysAnswer}
 use Rattle.months.specs.theory.Kept as Kept
 use Rattle.turns.specs.Listed.{turns-few}
 use Rattle.sui.specs.Sui.{suiDays}
-use Rattle.suis.specs.Ahead.{YearAhead}
-use Rattle.build.specs.theory.Walk.{Walks, Reached, reach-starts, reach-goes-on, year-ahead, solstices-reach, moons-reach}
+use Rattle.suis.specs.Ahead.{YearIn}
+use Rattle.build.specs.theory.Walk.{Walks, Reached, reach-starts, reach-goes-on, year-in}
 use Rattle.rebuilt.specs.Rebuild.{daysWords}
 use Rattle.kept_or_made.specs.OldDays.{AtOld, DaysOf, daysOfYears, days-of, days-long, moons-long, zhongqi-long, words-long, nothing-put, year-put}
 use Rattle.kept_or_made.proofs.inner.days.keep_days.Statement.{statement}
@@ -71,22 +70,9 @@ at-signed c = back (c .signed .result) (c .signed .ok) ∙ c .signed .ensures
 at-added : (c : lts.After-add called reads.Pre reads.Post Inv-loop μ-loop) → toZ w64 (ofZ w64 (c .add .result)) ≡ c .before .before .before .before .args .first +ℤ pos (c .before .before .before .loop .j)
 at-added c = back (c .add .result) (c .add .ok) ∙ (rw (toZ-ofZ (c .before .before .before .before .fits .first), at-signed (c .before)) at (c .add .ensures))
 
--- the days ahead of it
-solstices-there : (c : Loop) → c .loop .j < c .before .args .n → c .loop .j ≤ length (c .before .args .solstices .now)
-solstices-there c h = let a = c .before .args in let t = at-turn c in solstices-reach (inputs-of (c .before)) (a .zone) (a .suns) (a .moons) (t .places) (a .first) (a .n) (t .walks .begun) (t .reached) h (t .walks)
-
-moons-there : (c : Loop) → c .loop .j < c .before .args .n → c .loop .from ≤ length (c .before .args .newmoons .now)
-moons-there c h = let a = c .before .args in let t = at-turn c in moons-reach (inputs-of (c .before)) (a .zone) (a .suns) (a .moons) (t .places) (a .first) (a .n) (t .walks .begun) (t .reached) h (t .walks)
-
-ahead-of : (c : Loop) → c .loop .j < c .before .args .n → (let a = c .before .args in YearAhead (inputs-of (c .before)) (a .zone) (a .suns) (a .moons) (a .first +ℤ pos (c .loop .j)) (a .places .solstice + c .loop .j) (drop (c .loop .j) (a .solstices .now)) (drop (c .loop .from) (a .newmoons .now)) (take 13 (drop (13 * c .loop .j) (a .zhongqi .now))))
-ahead-of c h =
-    let a = c .before .args in
-    let t = at-turn c in
-    rw (t .is-place) at (year-ahead (inputs-of (c .before)) (a .zone) (a .suns) (a .moons) (t .places) (a .first) (a .n) (t .walks .begun) (t .reached) h (t .walks))
-
--- the rest of a list, as a part of it
-rest : (l : List ℤ) (k : ℕ) → take (length l - k) (drop k l) ≡ drop k l
-rest l k = take-all (length l - k) (drop k l) (omega (arith, length-drop k l))
+-- what finding its days asks
+year-of : (c : Loop) → c .loop .j < c .before .args .n → (let a = c .before .args in YearIn (inputs-of (c .before)) (a .zone) (a .suns) (a .moons) (a .first +ℤ pos (c .loop .j)) (a .places .solstice + c .loop .j) (c .loop .j) (c .loop .from) (a .solstices .now) (a .newmoons .now) (a .zhongqi .now))
+year-of c h = let a = c .before .args in let t = at-turn c in rw (t .is-place) at (year-in (inputs-of (c .before)) (a .zone) (a .suns) (a .moons) (t .places) (a .first) (a .n) (t .walks .begun) (t .reached) h (t .walks))
 
 -- ---- the days of year j
 days-there : (c : Loop) → c .loop .j < c .before .args .n → DaysOf (inputs-of (c .before)) (c .before .args .zone) (c .before .args .first +ℤ pos (c .loop .j))
@@ -96,16 +82,16 @@ abbrev Found : Type 0
 Found = lts.After-days-after called reads.Pre reads.Post Inv-loop μ-loop
 
 abbrev loop-of : Found → Loop
-loop-of c = c .before .before .before .before .before .before .before
+loop-of c = c .before .before .before .before
 
 abbrev taken-of : (c : Found) → loop-of c .loop .j < loop-of c .before .args .n
-taken-of c = c .before .before .before .before .before .before .loop-test .taken
+taken-of c = c .before .before .before .loop-test .taken
 
 at-days : (c : Found) → c .days-after .result .days ≡ days-there (loop-of c) (taken-of c) .days
 at-days c =
     let loop = loop-of c in
     let is = days-there loop (taken-of c) in
-    ap (λ (r : DaysAnswer). r .days) ((rw (toZ-ofZ (loop .before .fits .zone), at-added (c .before .before .before .before)) at (c .days-after .ensures)) ∙ ap daysAnswer (is .are-days))
+    ap (λ (r : DaysAnswer). r .days) ((rw (toZ-ofZ (loop .before .fits .zone), at-added (c .before)) at (c .days-after .ensures)) ∙ ap daysAnswer (is .are-days))
 
 -- the words stand in front, and nothing is made longer or shorter
 at-long : (c : Loop) → length (c .loop .out) ≡ length (c .before .args .out .now)
@@ -154,58 +140,11 @@ add-days-after c =
     let t = at-turn loop in
     record { fits = omega (arith, few loop, t .is-place, t .walks .solstices-ahead .inside, turns-few (sun (inputs-of (loop .before))) (t .walks .begun .is-known .sun-ready .is-accepted)) }
 
-mul-days-after : tie.Need-mul-days-after Inv-loop μ-loop
-mul-days-after c = record { fits = omega (arith, few (c .before .before .before)) }
-
-sub-days-after : tie.Need-sub-days-after Inv-loop μ-loop
-sub-days-after c = solstices-there (c .before .before .before) (c .before .before .loop-test .taken)
-
-part-days-after-start : tie.Need-part-days-after-start Inv-loop μ-loop
-part-days-after-start c = solstices-there (c .before .before .before) (c .before .before .loop-test .taken)
-
-part-days-after-end : tie.Need-part-days-after-end Inv-loop μ-loop
-part-days-after-end c = omega arith
-
-mul-days-after-2 : tie.Need-mul-days-after-2 Inv-loop μ-loop
-mul-days-after-2 c = record { fits = omega (arith, few (c .before .before .before .before)) }
-
-sub-days-after-2 : tie.Need-sub-days-after-2 Inv-loop μ-loop
-sub-days-after-2 c = moons-there (c .before .before .before .before) (c .before .before .before .loop-test .taken)
-
-part-days-after-start-2 : tie.Need-part-days-after-start-2 Inv-loop μ-loop
-part-days-after-start-2 c = moons-there (c .before .before .before .before) (c .before .before .before .loop-test .taken)
-
-part-days-after-end-2 : tie.Need-part-days-after-end-2 Inv-loop μ-loop
-part-days-after-end-2 c = omega arith
-
-mul-days-after-3 : tie.Need-mul-days-after-3 Inv-loop μ-loop
-mul-days-after-3 c = record { fits = omega (arith, few (c .before .before .before .before .before)) }
-
-mul-days-after-4 : tie.Need-mul-days-after-4 Inv-loop μ-loop
-mul-days-after-4 c = record { fits = omega (arith, few (c .before .before .before .before .before)) }
-
-add-days-after-2 : tie.Need-add-days-after-2 Inv-loop μ-loop
-add-days-after-2 c = record { fits = omega (arith, few (c .before .before .before .before .before)) }
-
-mul-days-after-5 : tie.Need-mul-days-after-5 Inv-loop μ-loop
-mul-days-after-5 c = record { fits = omega (arith, few (c .before .before .before .before .before)) }
-
-sub-days-after-3 : tie.Need-sub-days-after-3 Inv-loop μ-loop
-sub-days-after-3 c = omega arith
-
-part-days-after-start-3 : tie.Need-part-days-after-start-3 Inv-loop μ-loop
-part-days-after-start-3 c = omega arith
-
-part-days-after-end-3 : tie.Need-part-days-after-end-3 Inv-loop μ-loop
-part-days-after-end-3 c = let loop = c .before .before .before .before .before in omega (arith, c .before .before .before .before .loop-test .taken, at-turn loop .walks .zhongqi-room)
-
 days-after-requires : tie.Need-days-after-requires Inv-loop μ-loop
 days-after-requires c κs =
-    let turn = c .before .before .before .before .before in
+    let turn = c .before .before in
     let loop = turn .before in
-    let a = loop .before .args in
-    let thirteen : 13 * loop .loop .j + 13 - 13 * loop .loop .j ≡ 13 = omega arith in
-    rw (toZ-ofZ (loop .before .fits .zone), at-added (c .before .before .before), rest (a .solstices .now) (loop .loop .j), rest (a .newmoons .now) (loop .loop .from), thirteen) (ahead-of loop (turn .loop-test .taken))
+    rw (toZ-ofZ (loop .before .fits .zone), at-added c) (year-of loop (turn .loop-test .taken))
 
 days-words-requires : tie.Need-days-words-requires Inv-loop μ-loop
 days-words-requires c κs =
@@ -277,21 +216,6 @@ keep-days-spec =
     signed-requires
     add-requires
     add-days-after
-    mul-days-after
-    sub-days-after
-    part-days-after-start
-    part-days-after-end
-    mul-days-after-2
-    sub-days-after-2
-    part-days-after-start-2
-    part-days-after-end-2
-    mul-days-after-3
-    mul-days-after-4
-    add-days-after-2
-    mul-days-after-5
-    sub-days-after-3
-    part-days-after-start-3
-    part-days-after-end-3
     days-after-requires
     days-words-requires
     slice-aggregate-put-words

@@ -26,12 +26,12 @@ use Rattle.months.specs.Months.{suiOf}
 use Rattle.months.specs.theory.Kept as Kept
 use Rattle.turns.specs.Listed.{turns-few}
 use Rattle.sui.specs.Sui.{suiDays, suiOfYear}
-use Rattle.suis.specs.Ahead.{YearAhead}
+use Rattle.suis.specs.Ahead.{YearIn}
 use Rattle.suis.specs.theory.Next.{next-year}
 use Rattle.built.specs.Build.{suisFrom}
 use Rattle.build.specs.theory.Answered.{year-refused, year-found}
 use Rattle.build.specs.theory.Put.{monthsOf, sui-months}
-use Rattle.build.specs.theory.Walk.{walk-starts, walk-goes-on, walk-ends, walk-stops, year-ahead, solstices-reach, moons-reach, sui-room, month-room}
+use Rattle.build.specs.theory.Walk.{walk-starts, walk-goes-on, walk-ends, walk-stops, year-in, sui-room, month-room}
 use Rattle.kept_or_made.specs.declared.inner.years.Again.{Again as AgainRecord}
 use Rattle.kept_or_made.specs.declared.inner.years.AgainAnswer.the-variants.{Again, Refused}
 use Rattle.rebuilt.specs.Rebuild.{daysWords}
@@ -93,22 +93,9 @@ at-signed c = back (c .signed .result) (c .signed .ok) ∙ c .signed .ensures
 at-added : (c : lts.After-add called reads.Pre reads.Post Inv-loop μ-loop) → toZ w64 (ofZ w64 (c .add .result)) ≡ first-of (c .before .before .before) .args .first +ℤ pos (c .before .before .before .loop .j)
 at-added c = back (c .add .result) (c .add .ok) ∙ (rw (toZ-ofZ (first-of (c .before .before .before) .fits .first), at-signed (c .before)) at (c .add .ensures))
 
--- the days ahead of it
-solstices-there : (c : Loop) → c .loop .j < first-of c .args .n → c .loop .j ≤ length (first-of c .args .solstices .now)
-solstices-there c h = let a = first-of c .args in let t = at-turn c in solstices-reach (inputs-of (first-of c)) (a .zone) (a .suns) (a .moons) (t .places) (a .first) (a .n) (t .walks .begun) (t .walked .reached) h (t .walks)
-
-moons-there : (c : Loop) → c .loop .j < first-of c .args .n → c .loop .from ≤ length (first-of c .args .newmoons .now)
-moons-there c h = let a = first-of c .args in let t = at-turn c in moons-reach (inputs-of (first-of c)) (a .zone) (a .suns) (a .moons) (t .places) (a .first) (a .n) (t .walks .begun) (t .walked .reached) h (t .walks)
-
-ahead-of : (c : Loop) → c .loop .j < first-of c .args .n → (let a = first-of c .args in YearAhead (inputs-of (first-of c)) (a .zone) (a .suns) (a .moons) (a .first +ℤ pos (c .loop .j)) (a .places .solstice + c .loop .j) (drop (c .loop .j) (a .solstices .now)) (drop (c .loop .from) (a .newmoons .now)) (take 13 (drop (13 * c .loop .j) (a .zhongqi .now))))
-ahead-of c h =
-    let a = first-of c .args in
-    let t = at-turn c in
-    rw (t .is-place) at (year-ahead (inputs-of (first-of c)) (a .zone) (a .suns) (a .moons) (t .places) (a .first) (a .n) (t .walks .begun) (t .walked .reached) h (t .walks))
-
--- the rest of a list, as a part of it
-rest : (l : List ℤ) (k : ℕ) → take (length l - k) (drop k l) ≡ drop k l
-rest l k = take-all (length l - k) (drop k l) (omega (arith, length-drop k l))
+-- what finding its days asks
+year-in-turn : (c : Loop) → c .loop .j < first-of c .args .n → (let a = first-of c .args in YearIn (inputs-of (first-of c)) (a .zone) (a .suns) (a .moons) (a .first +ℤ pos (c .loop .j)) (a .places .solstice + c .loop .j) (c .loop .j) (c .loop .from) (a .solstices .now) (a .newmoons .now) (a .zhongqi .now))
+year-in-turn c h = let a = first-of c .args in let t = at-turn c in rw (t .is-place) at (year-in (inputs-of (first-of c)) (a .zone) (a .suns) (a .moons) (t .places) (a .first) (a .n) (t .walks .begun) (t .walked .reached) h (t .walks))
 
 -- the words of the old days of year j, and where its months stand in the old file
 abbrev before-of : Loop → List ℤ
@@ -151,10 +138,10 @@ abbrev Put : Type 0
 Put = lts.After-year-again called reads.Pre reads.Post Inv-loop μ-loop
 
 abbrev loop-of : Put → Loop
-loop-of c = c .before .before .before .before .before .before .before .before .before .before .before
+loop-of c = c .before .before .before .before .before .before .before .before
 
 abbrev taken-of : (c : Put) → loop-of c .loop .j < first-of (loop-of c) .args .n
-taken-of c = c .before .before .before .before .before .before .before .before .before .before .loop-test .taken
+taken-of c = c .before .before .before .before .before .before .before .loop-test .taken
 
 -- the sui of year j
 abbrev sui-of : Loop → Verdict Sui
@@ -164,7 +151,7 @@ twenty-eight : (j : ℕ) → 28 * j + 28 - 28 * j ≡ 28
 twenty-eight j = omega arith
 
 says : (c : Put) → (let loop = loop-of c in paperAgain (c .year-again .result) ≡ yearAgain (year-of loop) (days-of loop) (before-of loop) (loop .loop .years))
-says c = rw (toZ-ofZ (first-of (loop-of c) .fits .zone), at-added (c .before .before .before .before .before .before .before .before), twenty-eight (loop-of c .loop .j)) at (c .year-again .ensures .0)
+says c = rw (toZ-ofZ (first-of (loop-of c) .fits .zone), at-added (c .before .before .before .before .before), twenty-eight (loop-of c .loop .j)) at (c .year-again .ensures .0)
 
 -- what is put: a sui's record, its months' words, its year where it is listed
 abbrev record-of : Loop → ℕ → List ℤ
@@ -178,13 +165,13 @@ themselves words = words
 
 -- what stands in the lent words then
 suis-after : (c : Put) → (let loop = loop-of c in c .year-again .last .1 .1 .1 .1 .1 .1 .1 .1 .1 .1 .1 .1 .1 .1 .1 .1 .1 .1 .1 .0 ≡ putAnswered (yearCount (year-of loop) (days-of loop) (before-of loop)) (record-of loop) (2 * loop .loop .j) (loop .loop .suis))
-suis-after c = rw (toZ-ofZ (first-of (loop-of c) .fits .zone), at-added (c .before .before .before .before .before .before .before .before), twenty-eight (loop-of c .loop .j)) at (c .year-again .ensures .1 .0)
+suis-after c = rw (toZ-ofZ (first-of (loop-of c) .fits .zone), at-added (c .before .before .before .before .before), twenty-eight (loop-of c .loop .j)) at (c .year-again .ensures .1 .0)
 
 months-after : (c : Put) → (let loop = loop-of c in c .year-again .last .1 .1 .1 .1 .1 .1 .1 .1 .1 .1 .1 .1 .1 .1 .1 .1 .1 .1 .1 .1 .0 ≡ putAnswered (yearMonths (year-of loop) (days-of loop) (before-of loop) (first-of loop .args .old .now) (place-of loop)) themselves (3 * loop .loop .from) (loop .loop .months))
-months-after c = rw (toZ-ofZ (first-of (loop-of c) .fits .zone), at-added (c .before .before .before .before .before .before .before .before), twenty-eight (loop-of c .loop .j)) at (c .year-again .ensures .1 .1 .0)
+months-after c = rw (toZ-ofZ (first-of (loop-of c) .fits .zone), at-added (c .before .before .before .before .before), twenty-eight (loop-of c .loop .j)) at (c .year-again .ensures .1 .1 .0)
 
 kept-after : (c : Put) → (let loop = loop-of c in c .year-again .last .1 .1 .1 .1 .1 .1 .1 .1 .1 .1 .1 .1 .1 .1 .1 .1 .1 .1 .1 .1 .1 .0 ≡ putAnswered (yearCount (year-of loop) (days-of loop) (before-of loop)) (listed-of loop) (loop .loop .years) (loop .loop .kept))
-kept-after c = rw (toZ-ofZ (first-of (loop-of c) .fits .zone), at-added (c .before .before .before .before .before .before .before .before), twenty-eight (loop-of c .loop .j)) at (c .year-again .ensures .1 .1 .1)
+kept-after c = rw (toZ-ofZ (first-of (loop-of c) .fits .zone), at-added (c .before .before .before .before .before), twenty-eight (loop-of c .loop .j)) at (c .year-again .ensures .1 .1 .1)
 
 -- refused, by why
 refused-by : (c : Put) {r : Refusal} → c .year-again .result ≡ Refused r → sui-of (loop-of c) ≡ refusal r
@@ -283,86 +270,38 @@ add-year-again c =
 mul-year-again : tie.Need-mul-year-again Inv-loop μ-loop
 mul-year-again c = record { fits = omega (arith, few (c .before .before .before)) }
 
-sub-year-again : tie.Need-sub-year-again Inv-loop μ-loop
-sub-year-again c = solstices-there (c .before .before .before) (c .before .before .loop-test .taken)
-
-part-year-again-start : tie.Need-part-year-again-start Inv-loop μ-loop
-part-year-again-start c = solstices-there (c .before .before .before) (c .before .before .loop-test .taken)
-
-part-year-again-end : tie.Need-part-year-again-end Inv-loop μ-loop
-part-year-again-end c = omega arith
-
 mul-year-again-2 : tie.Need-mul-year-again-2 Inv-loop μ-loop
-mul-year-again-2 c = record { fits = omega (arith, few (c .before .before .before .before)) }
-
-sub-year-again-2 : tie.Need-sub-year-again-2 Inv-loop μ-loop
-sub-year-again-2 c = moons-there (c .before .before .before .before) (c .before .before .before .loop-test .taken)
-
-part-year-again-start-2 : tie.Need-part-year-again-start-2 Inv-loop μ-loop
-part-year-again-start-2 c = moons-there (c .before .before .before .before) (c .before .before .before .loop-test .taken)
-
-part-year-again-end-2 : tie.Need-part-year-again-end-2 Inv-loop μ-loop
-part-year-again-end-2 c = omega arith
-
-mul-year-again-3 : tie.Need-mul-year-again-3 Inv-loop μ-loop
-mul-year-again-3 c = record { fits = omega (arith, few (c .before .before .before .before .before)) }
-
-mul-year-again-4 : tie.Need-mul-year-again-4 Inv-loop μ-loop
-mul-year-again-4 c = record { fits = omega (arith, few (c .before .before .before .before .before)) }
+mul-year-again-2 c = record { fits = omega (arith, few (c .before .before .before)) }
 
 add-year-again-2 : tie.Need-add-year-again-2 Inv-loop μ-loop
-add-year-again-2 c = record { fits = omega (arith, few (c .before .before .before .before .before)) }
+add-year-again-2 c = record { fits = omega (arith, few (c .before .before .before)) }
 
-mul-year-again-5 : tie.Need-mul-year-again-5 Inv-loop μ-loop
-mul-year-again-5 c = record { fits = omega (arith, few (c .before .before .before .before .before)) }
+mul-year-again-3 : tie.Need-mul-year-again-3 Inv-loop μ-loop
+mul-year-again-3 c = record { fits = omega (arith, few (c .before .before .before)) }
 
-sub-year-again-3 : tie.Need-sub-year-again-3 Inv-loop μ-loop
-sub-year-again-3 c = omega arith
+sub-year-again : tie.Need-sub-year-again Inv-loop μ-loop
+sub-year-again c = omega arith
 
-part-year-again-start-3 : tie.Need-part-year-again-start-3 Inv-loop μ-loop
-part-year-again-start-3 c = omega arith
+part-year-again-start : tie.Need-part-year-again-start Inv-loop μ-loop
+part-year-again-start c = omega arith
 
-part-year-again-end-3 : tie.Need-part-year-again-end-3 Inv-loop μ-loop
-part-year-again-end-3 c = let loop = c .before .before .before .before .before in omega (arith, c .before .before .before .before .loop-test .taken, at-turn loop .walks .zhongqi-room)
+part-year-again-end : tie.Need-part-year-again-end Inv-loop μ-loop
+part-year-again-end c = let loop = c .before .before .before in omega (arith, c .before .before .loop-test .taken, at-turn loop .copies .room)
 
-mul-year-again-6 : tie.Need-mul-year-again-6 Inv-loop μ-loop
-mul-year-again-6 c = record { fits = omega (arith, few (c .before .before .before .before .before .before)) }
-
-mul-year-again-7 : tie.Need-mul-year-again-7 Inv-loop μ-loop
-mul-year-again-7 c = record { fits = omega (arith, few (c .before .before .before .before .before .before)) }
+mul-year-again-4 : tie.Need-mul-year-again-4 Inv-loop μ-loop
+mul-year-again-4 c = record { fits = omega (arith, few (c .before .before .before .before), copied-few (c .before .before .before .before)) }
 
 add-year-again-3 : tie.Need-add-year-again-3 Inv-loop μ-loop
-add-year-again-3 c = record { fits = omega (arith, few (c .before .before .before .before .before .before)) }
-
-mul-year-again-8 : tie.Need-mul-year-again-8 Inv-loop μ-loop
-mul-year-again-8 c = record { fits = omega (arith, few (c .before .before .before .before .before .before)) }
-
-sub-year-again-4 : tie.Need-sub-year-again-4 Inv-loop μ-loop
-sub-year-again-4 c = omega arith
-
-part-year-again-start-4 : tie.Need-part-year-again-start-4 Inv-loop μ-loop
-part-year-again-start-4 c = omega arith
-
-part-year-again-end-4 : tie.Need-part-year-again-end-4 Inv-loop μ-loop
-part-year-again-end-4 c = let loop = c .before .before .before .before .before .before in omega (arith, c .before .before .before .before .before .loop-test .taken, at-turn loop .copies .room)
-
-mul-year-again-9 : tie.Need-mul-year-again-9 Inv-loop μ-loop
-mul-year-again-9 c = record { fits = omega (arith, few (c .before .before .before .before .before .before .before), copied-few (c .before .before .before .before .before .before .before)) }
-
-add-year-again-4 : tie.Need-add-year-again-4 Inv-loop μ-loop
-add-year-again-4 c = record { fits = omega (arith, few (c .before .before .before .before .before .before .before), copied-few (c .before .before .before .before .before .before .before)) }
+add-year-again-3 c = record { fits = omega (arith, few (c .before .before .before .before), copied-few (c .before .before .before .before)) }
 
 year-again-requires : tie.Need-year-again-requires Inv-loop μ-loop
 year-again-requires c κs =
-    let turn = c .before .before .before .before .before .before .before .before .before in
+    let turn = c .before .before .before .before .before .before in
     let loop = turn .before in
-    let a = first-of loop .args in
-    let t = at-turn loop in
     let taken = turn .loop-test .taken in
-    let thirteen : 13 * loop .loop .j + 13 - 13 * loop .loop .j ≡ 13 = omega arith in
-    let year = at-added (c .before .before .before .before .before .before .before) in
+    let year = at-added (c .before .before .before .before) in
     let zone = toZ-ofZ (first-of loop .fits .zone) in (
-      rw (zone, year, rest (a .solstices .now) (loop .loop .j), rest (a .newmoons .now) (loop .loop .from), thirteen) (ahead-of loop taken),
+      rw (zone, year) (year-in-turn loop taken),
       (
         (λ days e s. bound loop taken days (rw (zone, year) at e) (rw (twenty-eight (loop .loop .j)) at s)),
         (omega (arith, few loop, taken), (omega (arith, few loop, taken), (omega (arith, few loop, taken, rooms loop, first-of loop .pre .1 .1 .0), (omega (arith, few loop, taken, rooms loop, first-of loop .pre .1 .1 .1 .0), omega (arith, years-few loop, taken, rooms loop, first-of loop .pre .1 .1 .1 .1))))),
@@ -505,29 +444,14 @@ put-years-again-spec =
     add-requires
     add-year-again
     mul-year-again
+    mul-year-again-2
+    add-year-again-2
+    mul-year-again-3
     sub-year-again
     part-year-again-start
     part-year-again-end
-    mul-year-again-2
-    sub-year-again-2
-    part-year-again-start-2
-    part-year-again-end-2
-    mul-year-again-3
     mul-year-again-4
-    add-year-again-2
-    mul-year-again-5
-    sub-year-again-3
-    part-year-again-start-3
-    part-year-again-end-3
-    mul-year-again-6
-    mul-year-again-7
     add-year-again-3
-    mul-year-again-8
-    sub-year-again-4
-    part-year-again-start-4
-    part-year-again-end-4
-    mul-year-again-9
-    add-year-again-4
     year-again-requires
     enum-known-put
     same-length

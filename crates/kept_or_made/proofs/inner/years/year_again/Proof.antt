@@ -94,7 +94,7 @@ days-words-requires : tie.Need-days-words-requires
 days-words-requires c κs =
     let told = c .before in
     let start = start-of told in
-    let known = start .pre .0 .is-known in
+    let known = start .pre .0 .ahead .is-known in
     (at-most-thirteen (days-of told .months) (twelve told) .1, (moons-long (inputs-of start) (start .args .zone) known (start .args .year) (at-days told), zhongqi-long (inputs-of start) (start .args .zone) known (start .args .year) (at-days told)))
 
 slice-aggregate-same-words : tie.Need-slice-aggregate-same-words
@@ -111,7 +111,7 @@ put-again-requires c κs =
     let i = inputs-of start in
     let a = start .args in
     let found = at-found told in
-    let small = new-moons-small i (a .zone) (start .pre .0 .is-known) (start .pre .0 .suns-searched .zone-small) in
+    let small = new-moons-small i (a .zone) (start .pre .0 .ahead .is-known) (start .pre .0 .ahead .suns-searched .zone-small) in
     rw (toZ-ofZ (start .fits .year)) (
       year-small (a .year) (found .in-range),
       (
