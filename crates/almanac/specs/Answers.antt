@@ -1,12 +1,11 @@
 -- What the entry points of this crate answer, on paper, and what each lent place holds afterwards: 13 for a file, or lists to be written, that break their rules, then 12
 -- where lent room has fewer places than the whole answer fills. Assumes nothing: these are definitions.
 use mathlib.Core.Bool.{Bool, not, _||_}
-use mathlib.Core.List.{List, [], _∷_, _++_}
+use mathlib.Core.List.{List}
 use Prim.Native.Nat.{ℕ}
 use lib.Dec.{ltb}
-use lib.IntN.{ℤ}
-use lib.ListN.{length, drop}
-use Rattle.refusals.specs.Verdict.{Verdict, answered, refused, refusal, refuseWhen, _before_, _then_}
+use lib.ListN.{length}
+use Rattle.refusals.specs.Verdict.{Verdict, answered, refusal, refuseWhen, _before_, _then_}
 use Rattle.almanac.specs.declared.Counts.{Counts}
 use Rattle.almanac.specs.declared.FileAnswer.{FileAnswer}
 use Rattle.almanac.specs.declared.FileAnswer.the-variants as file-answer

@@ -2,14 +2,13 @@
 -- numbers, not taken from the definitions. Assumes nothing.
 use mathlib.Core.Bool.{Bool, not}
 use mathlib.Core.List.{List, [], _∷_, _++_}
-use Prim.Native.Nat.{ℕ}
 use lib.Dec.{T, eqb}
 use lib.IntN.{ℤ, pos, negsuc, _+ℤ_}
 use lib.ListN.{length, take, set}
 use Rattle.whole.specs.Floor.{floorMod}
 use Rattle.whole.specs.Below.{every}
 use Rattle.whole.specs.Evaluated.{all, sameNumbers}
-use Rattle.refusals.specs.Verdict.{Verdict, answered}
+use Rattle.refusals.specs.Verdict.{answered}
 use Rattle.refusals.specs.Evaluated.{isAccepted, isRefused}
 use Rattle.dates.specs.Answers.{hasDate}
 use Rattle.clock.specs.Leap.{firstEntry, nextEntry, goodEntry, wholePairs, leapLawful}

@@ -1,7 +1,7 @@
 -- The layout of the file (document 01, "Almanac file"): little-endian sections in this order, each after a 32-bit count: leap entries (signed 32-bit day, 32-bit
 -- offset), suis (signed 32-bit year, one byte of months), months (32-bit handle, signed 32-bit first day, one byte length). Nothing follows. A content has
 -- bytes, and bytes have at most one content. Assumes nothing: these are definitions.
-use mathlib.Core.Bool.{Bool, not}
+use mathlib.Core.Bool.{not}
 use mathlib.Core.List.{List, [], _∷_, _++_}
 use Prim.Native.Nat.{ℕ, _+_, _*_}
 use lib.Dec.{eqb, ltb}

@@ -1,5 +1,5 @@
 -- Any two results that the promises of an entry point allow are the same result, and so is what each lent place holds. Assumes nothing.
-use mathlib.Core.Path.{_≡_, refl, sym, ap}
+use mathlib.Core.Path.{_≡_, sym, ap}
 use mathlib.Core.List.{List}
 use Prim.Native.Nat.{ℕ}
 use lib.IntN.{ℤ}
@@ -10,7 +10,7 @@ use Rattle.almanac.specs.declared.FileAnswer.{FileAnswer}
 use Rattle.almanac.specs.declared.FileAnswer.the-variants as file-answer
 use Rattle.almanac.specs.declared.WriteAnswer.{WriteAnswer}
 use Rattle.almanac.specs.declared.WriteAnswer.the-variants as write-answer
-use Rattle.content.specs.Content.{Content, leap-words, sui-words, month-words}
+use Rattle.content.specs.Content.{Content}
 use Rattle.almanac.specs.Answers.{paperFile, paperWritten, checkedFile, contentRead, readFile, bytesToWrite, all-bytes, writtenFile}
 
 -- ---- the paper tells answers apart

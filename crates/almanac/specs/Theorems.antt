@@ -1,11 +1,11 @@
 -- File writing and file reading undo each other: what a lawful content is written as is read as that content (`written-is-read`), and what was read from a file is
 -- written as that file (`read-is-written`). What is read is lawful (`read-is-lawful`). Assumes nothing.
 use mathlib.Core.Path.{_≡_, sym, ap, _∙_}
-use mathlib.Core.Bool.{Bool, true, false, not}
+use mathlib.Core.Bool.{true, not}
 use mathlib.Core.List.{List}
 use Prim.Native.Nat.{ℕ}
 use borrow.Author.Tests.{not-false}
-use Rattle.refusals.specs.Verdict.{Verdict, answered, refuseWhen, then-answered, test-answered, answers-apart, _before_, _then_}
+use Rattle.refusals.specs.Verdict.{answered, refuseWhen, then-answered, test-answered, answers-apart, _before_, _then_}
 use Rattle.words.specs.Theorems.{Bytes}
 use Rattle.almanac.specs.declared.Counts.{Counts}
 use Rattle.content.specs.Content.{Content, lawful}

@@ -27,7 +27,7 @@ use Rattle.almanac.specs.Layout.{bytesOf, fileOf}
 use Rattle.almanac.specs.Answers.{paperWritten, bytesInto, all-bytes}
 use Rattle.almanac.specs.Theorems.{written-is-read}
 use Rattle.almanac.specs.OneResult.{written-apart}
-use Rattle.built.specs.Build.{suisFrom, suiWords, contentFor, contentBuilt, bytesOfYears, bytesBuilt, fileBuilt, builtBy, bytesBy, contentBy}
+use Rattle.built.specs.Build.{suisFrom, suiWords, contentFor, contentBuilt, bytesBuilt, fileBuilt, builtBy, bytesBy, contentBy}
 use Rattle.built.specs.theory.Words.{length-sui-words}
 use Rattle.built.specs.theory.Years.{suis-are}
 use Rattle.built.specs.theory.Records.{suiAt, suis-whole, year-at, count-at, month-at}

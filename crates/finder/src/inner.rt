@@ -3,18 +3,12 @@ use series::Body;
 use times::Second;
 ghost use mathlib.Core.Path.{_≡_};
 ghost use Prim.Native.Nat.{_<_};
-ghost use lib.IntN.{pos, _*ℤ_};
-ghost use lib.Signed.{_≤ℤ_, _<ℤ_};
-ghost use mir.Syntax.{w64};
-ghost use mir.Val.{SFits};
-ghost use lib.ListN.{length, getD};
-ghost use Rattle.whole.specs.Ranges.{Within};
+ghost use lib.IntN.{pos};
+ghost use lib.ListN.{length};
 ghost use Rattle.series.specs.Bodies.{numbers};
 ghost use Rattle.series.specs.Series.{series, InSpan};
 ghost use Rattle.series.specs.Acceptance.{Accepted};
-ghost use Rattle.marks.specs.Listed.{listedMarks, reachedAt, firstReached, lastReached, secondOfMark};
-ghost use Rattle.marks.specs.Stretch.{BracketOf, Around, Enclosed};
-ghost use Rattle.marks.specs.Answers.{markOf, noMark};
+ghost use Rattle.marks.specs.Listed.{listedMarks, reachedAt, firstReached, lastReached};
 
 // How many units a mark is.
 pub fn mark_size(body: Body) -> i64

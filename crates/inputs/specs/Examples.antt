@@ -1,10 +1,10 @@
 -- The order in which inputs are judged: leap table before Sun before Moon before 7, computed on inputs that break several rules at once; and 7 for any mark, on
 -- both sides of the first leap entry. Assumes nothing.
 use mathlib.Core.Bool.{Bool, not}
-use mathlib.Core.List.{List, [], _∷_, _++_}
+use mathlib.Core.List.{List, [], _∷_}
 use Prim.Native.Nat.{ℕ}
 use lib.Dec.{T}
-use lib.IntN.{ℤ, pos, negsuc}
+use lib.IntN.{ℤ, pos}
 use lib.ListN.{replicate}
 use Rattle.whole.specs.Floor.{floorDiv}
 use Rattle.whole.specs.Below.{every}
@@ -18,7 +18,7 @@ use Rattle.chebyshev.specs.Polynomials.{P}
 use Rattle.chebyshev.specs.Segment.{sum, value, slope}
 use Rattle.series.specs.Acceptance.{seriesJudged}
 use Rattle.marks.specs.Marks.{Mark}
-use Rattle.inputs.specs.Inputs.{Inputs, inputs, anyEarly, inputsJudged}
+use Rattle.inputs.specs.Inputs.{inputs, anyEarly, inputsJudged}
 
 -- a segment with c1 alone
 abbrev one : ℤ → List ℤ

@@ -1,34 +1,25 @@
 -- Inputs are accepted exactly when they are known to be good; and of a ready series: each mark's second can be converted, and days of marks rise with the index.
 -- Assumes nothing.
-use mathlib.Core.Path.{_≡_, refl, sym, ap, _∙_}
-use mathlib.Core.Bool.{Bool, true, false, not, _||_}
+use mathlib.Core.Path.{_≡_, ap}
+use mathlib.Core.Bool.{true, not, _||_}
 use mathlib.Core.Logic.{_↔_, ⊎-elim}
-use mathlib.Core.List.{List, [], _∷_}
-use Prim.Native.Nat.{ℕ, zero, suc, _*_, _<_}
-use native.Mathlib.Omega.{arith}
+use mathlib.Core.List.{List}
+use Prim.Native.Nat.{_*_, _<_}
 use borrow.Author.Tests.{not-false}
-use lib.IntN.{ℤ, pos, negsuc, _+ℤ_}
+use lib.IntN.{ℤ, pos}
 use lib.Signed.{_≤ℤ_, _<ℤ_}
-use lib.ListN.{length, getD}
-use Rattle.whole.specs.Parts.{_⩽_, →≤}
+use Rattle.whole.specs.Parts.{_⩽_}
 use Rattle.whole.specs.Laws.{<→≤, ≤-total, ≤-antisymm, ≤-of-≡}
-use Rattle.whole.specs.Booleans.{neither, none-of}
-use Rattle.whole.specs.Ranges.{Within}
-use Rattle.whole.specs.Solver.{⇑, ⇓, ring}
-use Rattle.whole.specs.Tests.{says-in-range}
-use Rattle.refusals.specs.Verdict.{Verdict, accepted, refuseWhen, before-accepted, both-accepted, refuseWhen-accepted, accepted-when, OneToOne, one-result, paperCheck, checks-apart, _before_}
+use Rattle.whole.specs.Booleans.{neither}
+use Rattle.refusals.specs.Verdict.{accepted, refuseWhen, before-accepted, refuseWhen-accepted, one-result, paperCheck, checks-apart, _before_}
 use Rattle.refusals.specs.declared.Check.{Check}
-use Rattle.times.specs.declared.Second.{Second}
 use Rattle.clock.specs.Leap.{leapLawful}
-use Rattle.clock.specs.Clock.{convertible, early, dayIn, Readable}
+use Rattle.clock.specs.Clock.{dayIn}
 use Rattle.clock.specs.Answers.{leapJudged}
 use Rattle.clock.specs.Theorems.{days-never-go-back}
-use Rattle.series.specs.Series.{Series, InSpan, segmentLength, lastSecond, segments}
-use Rattle.series.specs.Acceptance.{Accepted, seriesJudged}
-use Rattle.series.specs.theory.Known.{facts}
-use Rattle.series.specs.theory.Span.{span-short}
+use Rattle.series.specs.Series.{Series}
 use Rattle.marks.specs.Listed.{listedMarks, firstReached, lastReached, secondOfMark}
-use Rattle.marks.specs.Theorems.{located-crossing, later-marks-are-later}
+use Rattle.marks.specs.Theorems.{later-marks-are-later}
 use Rattle.inputs.specs.Inputs.{Inputs, sun, moon, anyEarly, inputsJudged, InputsAccepted, dayOfMark}
 use Rattle.inputs.specs.Known.{Ready, Known}
 

@@ -9,7 +9,7 @@ use native.Mathlib.Nat.{zero-add}
 use lib.IntN.{ℤ, pos, _+ℤ_}
 use lib.ListN.{length, take, drop, length-append, length-drop, length-replicate, replicate, drop-of-length-le}
 use lib.Seq.{length-take-le, take-at, drop-at}
-use Rattle.whole.specs.Lists.{placed, placed-both, placed-none, placed-length}
+use Rattle.whole.specs.Lists.{placed, placed-both, placed-none}
 use Rattle.whole.specs.Tabulated.{length-tabulate}
 use Rattle.refusals.specs.Verdict.{Verdict, answered, refused, then-answered}
 use Rattle.inputs.specs.Inputs.{Inputs, sun, moon, dayOfMark}

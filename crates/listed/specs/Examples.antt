@@ -1,13 +1,13 @@
 -- The layout of the input on both sides of its bounds, 13 before the other refusals, the line of a mark with a negative index, and the Sun's lines before the Moon's:
 -- computed facts, checked at once. (The marks of a listing are stepped second by second, and run by programs.) Assumes nothing.
-use mathlib.Core.Bool.{Bool, true, false, not, _&&_}
+use mathlib.Core.Bool.{Bool, true, false, _&&_}
 use mathlib.Core.List.{List, [], _∷_, _++_}
 use Prim.Native.Nat.{ℕ, zero, suc}
 use lib.Dec.{T, eqb}
 use lib.IntN.{ℤ, pos, negsuc}
 use lib.ListN.{replicate}
 use Rattle.refusals.specs.Verdict.{Verdict, answered, refused, _then_}
-use Rattle.refusals.specs.Evaluated.{isAccepted, isRefused}
+use Rattle.refusals.specs.Evaluated.{isRefused}
 use Rattle.whole.specs.Evaluated.{same, all, sameNumbers, sameWords}
 use Rattle.whole.specs.Floor.{floorDiv, floorMod}
 use Rattle.whole.specs.Below.{every, lastBelow}

@@ -15,9 +15,9 @@ ghost use mir.Val.{SFits};
 ghost use lib.ListN.{length, getD};
 ghost use Rattle.whole.specs.Ranges.{Within};
 ghost use Rattle.series.specs.Bodies.{numbers};
-ghost use Rattle.series.specs.Series.{series, InSpan};
+ghost use Rattle.series.specs.Series.{series};
 ghost use Rattle.series.specs.Acceptance.{Accepted};
-ghost use Rattle.marks.specs.Listed.{listedMarks, reachedAt, firstReached, lastReached, secondOfMark};
+ghost use Rattle.marks.specs.Listed.{listedMarks, firstReached, lastReached, secondOfMark};
 ghost use Rattle.marks.specs.Stretch.{BracketOf, Around, Enclosed};
 ghost use Rattle.marks.specs.Answers.{markOf, noMark};
 

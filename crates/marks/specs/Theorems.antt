@@ -1,7 +1,7 @@
 -- Demand 3: "Every crossing of a mark is listed once, in order, no others, and lies where the exact Chebyshev sum says", for every accepted series: (a) the list
 -- is exactly the crossings of its values, each once, in time order; (b) around a listed mark's second the exact sum is under the mark two seconds before and over
 -- it one second after; (c) where the exact sum crosses a mark, the mark is listed, at most one second away. Assumes nothing.
-use mathlib.Core.Path.{_≡_, refl, _∙_}
+use mathlib.Core.Path.{_≡_, refl}
 use mathlib.Core.List.{List, [], _∷_, _++_}
 use mathlib.Core.Logic.{_↔_}
 use Prim.Native.Nat.{ℕ, _*_, _≤_}

@@ -8,7 +8,7 @@ use borrow.Author.Tests.{lt-ltb, le-ltb}
 use lib.Dec.{ltb}
 use lib.IntN.{ℤ}
 use lib.ListN.{length, drop}
-use Rattle.refusals.specs.Verdict.{Verdict, answered, refused, refuseWhen, answers-apart, answer-or-refusal, _before_, _then_}
+use Rattle.refusals.specs.Verdict.{Verdict, answered, refused, refuseWhen, answers-apart, answer-or-refusal, _before_}
 use Rattle.refusals.specs.Lent.{writtenInto}
 use Rattle.content.specs.Content.{Content}
 use Rattle.almanac.specs.Layout.{bytesOf}

@@ -2,7 +2,6 @@
 -- second by second, and run by programs.) Assumes nothing.
 use mathlib.Core.Bool.{Bool, false, _&&_}
 use mathlib.Core.List.{List, [], _∷_, _++_}
-use Prim.Native.Nat.{ℕ}
 use lib.Dec.{T}
 use lib.IntN.{ℤ, pos, negsuc}
 use lib.ListN.{replicate}

@@ -2,7 +2,7 @@
 -- is refused by 13 for its layout exactly where they are (`build-takes-them`). So the new file is what `build` makes of a new input that asks for the old file's years
 -- (`rebuilt-is-built`). Assumes nothing but what a statement says itself.
 use mathlib.Core.Path.{_≡_, refl, ap₂, _∙_}
-use mathlib.Core.Bool.{Bool, true, false, not}
+use mathlib.Core.Bool.{Bool, true, false}
 use mathlib.Core.List.{List}
 use Prim.Native.Nat.{ℕ, _/_}
 use lib.Dec.{ltb}

@@ -6,7 +6,6 @@ use layout::inner::find_places;
 use rebuilt::RebuildAnswer;
 use times::Second;
 ghost use mathlib.Core.Path.{_≡_};
-ghost use Prim.Native.Nat.{_≤_};
 ghost use lib.ListN.{length};
 ghost use Rattle.refusals.specs.Lent.{writtenInto};
 ghost use Rattle.clock.specs.Clock.{utc8};

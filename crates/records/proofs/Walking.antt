@@ -1,6 +1,6 @@
 -- What walks by hand share: machine values (`sliced`, `num`, ..), what a lent slice owns, what plain data owns, which is had for nothing (`has-second`, `has-i64`), and
 -- two clauses said at exit (`says-both`). Assumes `Given`.
-use mathlib.Core.Path.{_≡_, refl}
+use mathlib.Core.Path.{refl}
 use Prim.Native.Nat.{_<_, _^_}
 use mathlib.Core.List.{List, [], _∷_}
 use lib.IntN.{ℤ}

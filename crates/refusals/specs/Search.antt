@@ -5,7 +5,7 @@ use mathlib.Core.Logic.{_↔_}
 use mathlib.Core.Bool.{Bool, true, false, cond}
 use Prim.Native.Nat.{ℕ, zero, suc, _+_, _-_, _<_, _≤_}
 use native.Mathlib.Omega.{arith}
-use Rattle.refusals.specs.Verdict.{Verdict, answered, refused, accepted, answer-or-refusal}
+use Rattle.refusals.specs.Verdict.{Verdict, refused, accepted, answer-or-refusal}
 
 unfoldable pub firstBad : ℕ → (ℕ → Bool) → ℕ → ℕ → Verdict (Unit {0})
 firstBad number bad k zero = accepted

@@ -1,7 +1,7 @@
 -- Numbers in bytes at the ends of each width, read and written, each a computed fact, and all of them checked at once. Assumes nothing.
 use mathlib.Core.Bool.{Bool}
 use mathlib.Core.List.{List, [], _∷_}
-use Prim.Native.Nat.{ℕ, _^_, _-_}
+use Prim.Native.Nat.{_^_, _-_}
 use lib.Dec.{T}
 use lib.IntN.{pos, negsuc}
 use lib.ListN.{replicate}

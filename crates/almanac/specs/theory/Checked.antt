@@ -6,23 +6,23 @@ use Prim.Native.Nat.{ℕ, _+_, _*_, _/_, _%_, _≤_, _<_}
 use native.Mathlib.Omega.{arith}
 use native.Mathlib.Nat.{mul-div-cancel-left}
 use borrow.Author.Tests.{eq-eqb, le-leb}
-use lib.Dec.{eqb, leb, ltb}
+use lib.Dec.{ltb}
 use lib.IntN.{ℤ}
 use lib.ListN.{length, take, drop}
 use lib.Seq.{take-at}
-use Rattle.refusals.specs.Verdict.{Verdict, answered, refused}
+use Rattle.refusals.specs.Verdict.{answered, refused}
 use Rattle.whole.specs.Booleans.{both-hold}
 use Rattle.clock.specs.Leap.{leapLawful}
 use Rattle.clock.specs.theory.Table.{few}
 use Rattle.almanac.specs.declared.Counts.{Counts}
-use Rattle.content.specs.Content.{Content, entryCount, suiCount, monthCount, wholeSuis, lawful}
+use Rattle.content.specs.Content.{entryCount, suiCount, monthCount, wholeSuis, lawful}
 use Rattle.content.specs.Steps.{suisLawful}
 use Rattle.content.specs.theory.Walk.{leap-broken, suis-decide}
 use Rattle.almanac.specs.Fields.{Field, times, numbersIn}
 use Rattle.almanac.specs.Layout.{entryFields, suiFields, monthFields, suisAt, monthsAt, countsOf, contentAt, contentOf, fileOf}
 use Rattle.almanac.specs.Answers.{countsIn, checkedFile}
 use Rattle.almanac.specs.theory.FieldLaws.{numbers-length, length-times}
-use Rattle.almanac.specs.theory.Rules.{Rules, rules, some-sui, few-suis}
+use Rattle.almanac.specs.theory.Rules.{rules, some-sui, few-suis}
 
 -- ---- which lent list is too short for its section
 abbrev pub shortFor : Counts → ℕ → ℕ → ℕ → Bool

@@ -3,12 +3,12 @@ use mathlib.Core.Path.{_≡_, refl, sym, ap, ap₂, _∙_}
 use mathlib.Core.List.{List, [], _∷_, _++_, append-assoc, append-nil}
 use Prim.Native.Nat.{ℕ, zero, suc, _+_, _*_, _<_, _≤_}
 use native.Mathlib.Omega.{arith}
-use native.Mathlib.Nat.{add-assoc, zero-add}
+use native.Mathlib.Nat.{zero-add}
 use lib.IntN.{ℤ, pos}
 use lib.Signed.{mag}
 use lib.ListN.{length, take, drop, length-append}
 use lib.Seq.{drop-drop}
-use Rattle.words.specs.Words.{half4, byte, unsigned4, signed4, bytes1, bytes4}
+use Rattle.words.specs.Words.{half4}
 use Rattle.words.specs.Theorems.{Bytes, byte-read-back, unsigned-read-back, signed-read-back, byte-written-back, unsigned-written-back, signed-written-back}
 use Rattle.almanac.specs.Fields.{Field, one-byte, unsigned, signed, width, read, written, times, widths, numbersIn, bytesFor}
 

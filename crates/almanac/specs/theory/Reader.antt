@@ -1,8 +1,8 @@
 -- Reading a file into lent words: what the check says of it, and what each lent place holds afterwards. Assumes nothing.
 use mathlib.Core.Path.{_≡_, refl, sym, ap, _∙_}
-use mathlib.Core.Bool.{Bool, true, false}
+use mathlib.Core.Bool.{true, false}
 use mathlib.Core.List.{List, _++_}
-use Prim.Native.Nat.{ℕ, _+_, _*_, _≤_, _<_}
+use Prim.Native.Nat.{ℕ, _+_, _*_, _≤_}
 use native.Mathlib.Omega.{arith}
 use borrow.Author.Tests.{ltb-false}
 use lib.Dec.{ltb}
@@ -14,10 +14,10 @@ use Rattle.whole.specs.Booleans.{neither}
 use Rattle.clock.specs.theory.Table.{few}
 use Rattle.almanac.specs.declared.Counts.{Counts}
 use Rattle.content.specs.Content.{Content, lawful, leap-words, sui-words, month-words}
-use Rattle.almanac.specs.Layout.{endAt, countsOf, contentAt, fileOf}
+use Rattle.almanac.specs.Layout.{endAt, contentAt, fileOf}
 use Rattle.almanac.specs.Answers.{countsIn, checkedFile, contentRead, readFile}
 use Rattle.almanac.specs.Theorems as theorems
-use Rattle.almanac.specs.theory.Whole.{Found, found}
+use Rattle.almanac.specs.theory.Whole.{found}
 use Rattle.almanac.specs.theory.Rules.{rules, few-suis, months-few}
 use Rattle.almanac.specs.theory.Checked.{shortFor, entries-of, suis-of, months-of, entry-count, sui-count, month-count, same-counts}
 

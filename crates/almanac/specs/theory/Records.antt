@@ -1,9 +1,9 @@
 -- The records of a file, each at its place: sui i and month k of a content stand where the layout puts them. Assumes nothing.
-use mathlib.Core.Path.{_≡_, refl, sym, ap, _∙_}
-use mathlib.Core.List.{List, [], _∷_}
+use mathlib.Core.Path.{_≡_, refl}
+use mathlib.Core.List.{List}
 use Prim.Native.Nat.{ℕ, zero, suc, _+_, _*_, _<_}
 use native.Mathlib.Omega.{arith}
-use lib.IntN.{ℤ, pos}
+use lib.IntN.{pos}
 use lib.ListN.{getD}
 use Rattle.words.specs.Words.{byte, unsigned4, signed4}
 use Rattle.content.specs.Content.{yearAt, countAt, monthAt}

@@ -1,33 +1,31 @@
 -- What a lawful content is known to be, rule by rule, and how large its numbers are: they fit the fields of the layout (`lawful-fits`). Assumes nothing.
-use mathlib.Core.Path.{_≡_, refl, sym, ap, ap₂, _∙_}
+use mathlib.Core.Path.{_≡_, refl, sym, ap, _∙_}
 use mathlib.Core.Bool.{Bool, true, false, _&&_, _||_}
 use mathlib.Core.List.{List, [], _∷_}
 use mathlib.Core.Logic.{_⊎_, inl, inr, ⊎-elim}
 use Prim.Native.Nat.{ℕ, zero, suc, _+_, _-_, _*_, _/_, _%_, _<_, _≤_}
 use native.Mathlib.Omega.{arith}
-use native.Mathlib.Nat.{div-add-mod', mod-lt, mul-div-cancel-left}
+use native.Mathlib.Nat.{div-add-mod', mul-div-cancel-left}
 use native.Mathlib.Decide.{decLt}
 use borrow.Author.Tests.{eqb-true, leb-true}
 use lib.Dec.{eqb, leb}
 use lib.IntN.{ℤ, pos, negsuc, natAbs, _+ℤ_, _-ℤ_, _*ℤ_}
-use lib.Signed.{leZ, mag}
+use lib.Signed.{mag}
 use lib.ListN.{length, getD}
 use Rattle.whole.specs.Parts.{_⩽_, _≺_, ℤ-rules}
-use Rattle.whole.specs.Laws.{≤-trans, abs-of-nonneg}
-use Rattle.whole.specs.Ranges.{Within}
-use Rattle.whole.specs.Solver.{⇑, ⇓, ring, le-yes}
+use Rattle.whole.specs.Laws.{abs-of-nonneg}
+use Rattle.whole.specs.Solver.{⇑, ⇓, ring}
 use Rattle.whole.specs.Booleans.{both}
 use Rattle.whole.specs.Tests.{inRange, isExactly, in-range-says, exactly-says}
 use Rattle.whole.specs.Below.{every, every-at}
 use Rattle.words.specs.Words.{half4}
 use Rattle.dates.specs.Answers.{hasDate}
 use Rattle.clock.specs.Leap.{leapLawful, wholePairs, goodEntry, entries, day, offset}
-use Rattle.clock.specs.theory.Table.{few, day-small, offset-small, offset-is, offset-first}
+use Rattle.clock.specs.theory.Table.{few, day-small, offset-is, offset-first}
 use Rattle.months.specs.Handles.{numberAt, leapMark, handle, handleAt}
 use Rattle.months.specs.theory.Numbering.{number-small, mark-small}
 use Rattle.content.specs.Content.{Content, entryCount, suiCount, monthCount, yearAt, countAt, monthAt, monthsBefore, followsYear, goodSui, leapsBefore, goodHandle, goodStart, goodDays, goodMonth, goodMonths, goodSuiMonths, wholeSuis, lawful}
 use Rattle.almanac.specs.Fields.{Field, one-byte, unsigned, signed, times}
-use Rattle.almanac.specs.Layout.{entryFields, suiFields, monthFields}
 use Rattle.almanac.specs.theory.FieldLaws.{Counted, FitsField, Fit}
 use Rattle.almanac.specs.theory.Whole.{FitsLayout}
 

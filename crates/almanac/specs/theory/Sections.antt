@@ -8,7 +8,7 @@ use lib.IntN.{ℤ, pos, negsuc, natAbs}
 use lib.ListN.{length, take, drop, getD, set, length-append, length-drop, take-append-drop}
 use lib.Seq.{take-at, drop-at, drop-drop, take-all, length-take-le, sets-eq}
 use Rattle.whole.specs.Lists.{placed, placed-both}
-use Rattle.almanac.specs.Fields.{Field, one-byte, unsigned, signed, width, written, times, widths, numbersIn, bytesFor}
+use Rattle.almanac.specs.Fields.{Field, signed, width, written, times, widths, numbersIn, bytesFor}
 use Rattle.almanac.specs.theory.FieldLaws.{Counted, FitsField, written-width, Fit, fit-length, times-more, take-more, numbers-append, numbers-length, bytes-append, bytes-length, length-times, widths-times}
 
 -- a record more

@@ -1,20 +1,20 @@
 -- The two laws of the layout, before anything is judged: the content of a content's bytes, and the bytes of the content that bytes have. Assumes nothing.
 use mathlib.Core.Path.{_≡_, refl, sym, ap, ap₂, _∙_}
-use mathlib.Core.Bool.{Bool, true, false, not}
-use mathlib.Core.List.{List, [], _∷_, _++_, append-assoc, append-nil}
+use mathlib.Core.Bool.{not}
+use mathlib.Core.List.{List, [], _++_, append-assoc, append-nil}
 use Prim.Native.Nat.{ℕ, _+_, _*_, _/_, _<_, _≤_}
 use native.Mathlib.Omega.{arith}
 use native.Mathlib.Nat.{mul-div-cancel-left}
-use borrow.Author.Tests.{ltb-false, le-ltb, eq-eqb, eqb-true, not-false}
+use borrow.Author.Tests.{le-ltb, eq-eqb, eqb-true, not-false}
 use lib.Dec.{eqb, ltb}
 use lib.IntN.{ℤ, pos}
-use lib.ListN.{length, take, drop, length-append, take-append-drop}
+use lib.ListN.{length, take, drop, length-append}
 use lib.Seq.{drop-drop, take-all}
-use Rattle.refusals.specs.Verdict.{Verdict, answered, refuseWhen, test-answered, answers-apart, _before_, _then_}
+use Rattle.refusals.specs.Verdict.{answered, refuseWhen, test-answered, answers-apart, _before_, _then_}
 use Rattle.words.specs.Words.{pattern4, unsigned4, bytes4}
 use Rattle.words.specs.Theorems.{Bytes, unsigned-written-back, unsigned-read-back}
 use Rattle.almanac.specs.declared.Counts.{Counts}
-use Rattle.content.specs.Content.{Content, content, entryCount, suiCount, monthCount}
+use Rattle.content.specs.Content.{Content, entryCount, suiCount, monthCount}
 use Rattle.almanac.specs.Fields.{Field, times, widths, numbersIn, bytesFor}
 use Rattle.almanac.specs.Answers.{countsIn}
 use Rattle.almanac.specs.Layout.{entryFields, suiFields, monthFields, bytesOf, suisAt, monthsAt, endAt, countsOf, contentAt, contentOf}

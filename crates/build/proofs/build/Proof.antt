@@ -4,7 +4,7 @@ use mathlib.Core.Bool.{true}
 use borrow.Author.Tests.{not-true, not-false}
 use lib.IntN.{pos, natAbs}
 use mir.Facts.{toZ-ofZ}
-use Rattle.whole.specs.Ranges.{Within, within, bounds}
+use Rattle.whole.specs.Ranges.{within, bounds}
 use Rattle.whole.specs.Tests.{inRange}
 use Rattle.refusals.specs.Verdict.{paperCheck, accepted-is}
 use Rattle.clock.specs.Clock.{utc8}

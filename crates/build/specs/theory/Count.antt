@@ -9,8 +9,8 @@ use Rattle.whole.specs.Tests.{inRange}
 use Rattle.refusals.specs.Verdict.{Verdict, refused}
 use Rattle.refusals.specs.Lent.{writtenInto}
 use Rattle.inputs.specs.Inputs.{Inputs, inputsJudged, InputsAccepted}
-use Rattle.almanac.specs.Answers.{bytesCounted, all-bytes}
-use Rattle.built.specs.Build.{bytesOfYears, bytesBuilt, fileBuilt, builtBy}
+use Rattle.almanac.specs.Answers.{all-bytes}
+use Rattle.built.specs.Build.{bytesBuilt, fileBuilt, builtBy}
 use Rattle.build.specs.theory.File.{Promises}
 
 module _ (i : Inputs) (zone first count : ℤ) (file : List ℕ) where

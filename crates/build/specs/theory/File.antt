@@ -1,5 +1,5 @@
 -- From the words of the suis that were found to the file: they are a lawful content, and its bytes are those of the years. Assumes nothing.
-use mathlib.Core.Path.{_≡_, refl, sym, ap, ap₂, _∙_}
+use mathlib.Core.Path.{_≡_, refl, sym, ap, _∙_}
 use mathlib.Core.Bool.{true}
 use mathlib.Core.List.{List, [], _∷_, _++_}
 use Prim.Native.Nat.{ℕ, zero, suc, _+_, _*_, _/_, _≤_, _<_}
@@ -16,9 +16,9 @@ use Rattle.inputs.specs.Known.{Known}
 use Rattle.months.specs.declared.Sui.{Sui}
 use Rattle.sui.specs.Sui.{suiOfYear}
 use Rattle.suis.specs.theory.Next.{next-year}
-use Rattle.content.specs.Content.{Content, content, lawful}
+use Rattle.content.specs.Content.{content, lawful}
 use Rattle.almanac.specs.Answers.{bytesInto, bytesCounted, all-bytes}
-use Rattle.built.specs.Build.{suisFrom, wordsOf, monthsIn as monthsOf, suiWords, monthWords, contentFor, contentBuilt, bytesOfYears, bytesBy, contentBy, suisBy}
+use Rattle.built.specs.Build.{suisFrom, wordsOf, monthsIn as monthsOf, suiWords, monthWords, bytesOfYears, bytesBy, contentBy, suisBy}
 use Rattle.build.specs.theory.Put.{monthsIn}
 use Rattle.built.specs.theory.Words.{length-sui-words, length-words-of, month-words-snoc}
 use Rattle.built.specs.theory.Years.{SuisOf, suis-are, suis-refused}

@@ -10,7 +10,7 @@ use lib.ListN.{length, take, drop, length-append, length-drop}
 use lib.Seq.{length-take-le}
 use Rattle.whole.specs.Lists.{placed, placed-both, placed-length}
 use Rattle.whole.specs.Solver.{⇑, ring}
-use Rattle.refusals.specs.Verdict.{Verdict, answered, refused, answers-apart}
+use Rattle.refusals.specs.Verdict.{answered, refused, answers-apart}
 use Rattle.series.specs.Series.{Series}
 use Rattle.inputs.specs.Inputs.{Inputs, sun, moon}
 use Rattle.inputs.specs.Known.{Known}
@@ -23,7 +23,7 @@ use Rattle.sui.specs.theory.Found.{zhongqiFrom}
 use Rattle.sui.specs.theory.Solstices.{eve}
 use Rattle.suis.specs.declared.inner.Places.{Places}
 use Rattle.sui.specs.Sui.{suiOfYear}
-use Rattle.suis.specs.Ahead.{Ahead, YearAhead, YearIn, solsticesBefore}
+use Rattle.suis.specs.Ahead.{Ahead, YearIn, solsticesBefore}
 use Rattle.suis.specs.theory.Begun.{BegunAt}
 use Rattle.suis.specs.theory.Lookups.{ahead-drop}
 use Rattle.suis.specs.theory.Next.{next-year}

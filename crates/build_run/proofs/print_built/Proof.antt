@@ -1,5 +1,5 @@
 -- `build_run::print_built` is safe. Assumes nothing.
-use mathlib.Core.Path.{_≡_, sym, ap, _∙_}
+use mathlib.Core.Path.{sym, ap, _∙_}
 use lib.Seq.{length-take-le}
 use Rattle.almanac.specs.Answers.{paperWritten}
 use Rattle.building.specs.Building.{builtFromTaken}
@@ -7,13 +7,6 @@ use Rattle.building.specs.theory.Cases.{written-inside}
 use borrow.Author.Needs.{needs}
 use Rattle.build_run.proofs.print_built.Statement.{statement}
 use Rattle.build_run.proofs.print_built.Tie as tie
-use Rattle.build_run.proofs.print_built.Reads as reads
-use Rattle.build_run.proofs.print_built.Lts as lts
-use Rattle.build_run.proofs.inner.file_room.Reads as file-room-reads
-use Rattle.build_run.proofs.inner.print_refusal.Reads as print-refusal-reads
-use Rattle.build_run.proofs.inner.print_series.Reads as print-series-reads
-use Rattle.building.proofs.build_taken.Reads as build-taken-reads
-use Rattle.io.proofs.write_all.Reads as write-all-reads
 
 file-room-requires : tie.Need-file-room-requires
 file-room-requires c κs = search needs

@@ -11,10 +11,6 @@ use Rattle.building.specs.theory.Cases.{refusing, passing-on, not-taken,
 use borrow.Author.Needs.{needs}
 use Rattle.building.proofs.build_taken.Statement.{statement}
 use Rattle.building.proofs.build_taken.Tie as tie
-use Rattle.building.proofs.build_taken.Reads as reads
-use Rattle.building.proofs.build_taken.Lts as lts
-use Rattle.building.proofs.inner.all_taken.Reads as all-taken-reads
-use Rattle.building.proofs.sections.build_words.Reads as build-words-reads
 
 is-not-taken : (c : tie.Then1) → allTaken (c .before .before .before .args .words .now) (c .before .before .before .args .bytes) ≡ false
 is-not-taken c = sym (c .before .all-taken .ensures) ∙ not-true (c .before .all-taken .result) (c .if1 .taken)

@@ -11,10 +11,6 @@ use Rattle.building.specs.theory.Blamed.{not-taken, taken}
 use borrow.Author.Needs.{needs}
 use Rattle.building.proofs.refused_series.Statement.{statement}
 use Rattle.building.proofs.refused_series.Tie as tie
-use Rattle.building.proofs.refused_series.Reads as reads
-use Rattle.building.proofs.refused_series.Lts as lts
-use Rattle.building.proofs.inner.all_taken.Reads as all-taken-reads
-use Rattle.building.proofs.refused.in_words.Reads as in-words-reads
 
 is-not-taken : (c : tie.Then1) → allTaken (c .before .before .args .words .now) (c .before .before .args .bytes) ≡ false
 is-not-taken c = sym (c .before .all-taken .ensures) ∙ not-true (c .before .all-taken .result) (c .if1 .taken)

@@ -1,11 +1,11 @@
 -- What an accepted table and second are known to be, and what an answer tells. Assumes nothing.
-use mathlib.Core.Path.{_≡_, refl, sym}
+use mathlib.Core.Path.{_≡_}
 use mathlib.Core.Bool.{true, false, not}
 use mathlib.Core.List.{List}
 use borrow.Author.Tests.{not-false}
 use lib.IntN.{ℤ}
 use Rattle.whole.specs.Ranges.{Within}
-use Rattle.refusals.specs.Verdict.{Verdict, answered, accepted, _before_, refuseWhen, before-accepted, refuseWhen-accepted}
+use Rattle.refusals.specs.Verdict.{accepted, _before_, refuseWhen, before-accepted, refuseWhen-accepted}
 use Rattle.times.specs.declared.Second.{Second}
 use Rattle.clock.specs.Leap.{leapLawful, holds}
 use Rattle.clock.specs.Clock.{convertible, tai, early, Readable}

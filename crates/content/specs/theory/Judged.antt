@@ -1,24 +1,22 @@
 -- The parts of judging a sui and a month, test after test, as the leaves make them. Assumes nothing.
 use mathlib.Core.Path.{_≡_, refl, sym, ap, ap₂, _∙_}
-use mathlib.Core.Bool.{Bool, true, false, cond, _&&_, _||_}
+use mathlib.Core.Bool.{Bool, true, false, cond, _||_}
 use mathlib.Core.List.{List, [], _∷_}
-use Prim.Native.Nat.{ℕ, zero, suc, _+_, _*_, _-_, _%_, _≤_, _<_}
+use Prim.Native.Nat.{ℕ, zero, suc, _+_, _*_, _-_, _≤_, _<_}
 use native.Mathlib.Omega.{arith}
 use native.Mathlib.Decide.{decLt}
 use native.Mathlib.Nat.{mod-lt}
 use borrow.Author.Tests.{eq-eqb, ne-eqb, le-leb, lt-leb}
 use lib.Dec.{eqb, leb}
-use lib.IntN.{ℤ, pos, negsuc, _+ℤ_, _-ℤ_, _*ℤ_}
-use Rattle.whole.specs.Parts.{_⩽_}
+use lib.IntN.{ℤ, pos, _+ℤ_, _-ℤ_, _*ℤ_}
 use Rattle.whole.specs.Solver.{⇑, ⇓, ring}
-use Rattle.whole.specs.Booleans.{not-both, both, none-of, first-holds, second-decides}
+use Rattle.whole.specs.Booleans.{both, none-of, first-holds, second-decides}
 use Rattle.whole.specs.Floor.{floorMod, floorMod-unique}
 use Rattle.whole.specs.Ranges.{Within}
 use Rattle.whole.specs.Tests.{inRange, isExactly, in-range-says, exactly-says, says-exactly}
 use Rattle.dates.specs.Answers.{hasDate}
 use Rattle.months.specs.Handles.{ordinal, handle, handleAt}
 use Rattle.months.specs.theory.Numbering.{before-leap, from-leap, at-leap, not-at-leap}
-use Rattle.content.specs.declared.inner.Walked.{Walked}
 use Rattle.content.specs.Content.{monthAt, goodHandle, goodStart}
 use Rattle.content.specs.Steps.{suiAfter, daysAfter, ordinary, handleAfter, leapHandle, stopped, walkedOn}
 

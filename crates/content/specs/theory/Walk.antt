@@ -5,13 +5,13 @@ use mathlib.Core.List.{List, [], _∷_}
 use Prim.Native.Nat.{ℕ, zero, suc, _+_, _*_, _-_, _/_, _%_, _≤_, _<_}
 use native.Mathlib.Omega.{arith}
 use native.Mathlib.Nat.{div-add-mod'}
-use borrow.Author.Tests.{eq-eqb, ne-eqb, leb-true, eqb-true}
+use borrow.Author.Tests.{leb-true, eqb-true}
 use lib.Dec.{eqb, leb}
 use lib.IntN.{ℤ, pos, negsuc, natAbs, _+ℤ_, _-ℤ_}
 use lib.ListN.{length}
 use Rattle.whole.specs.Parts.{_⩽_, ℤ-rules}
 use Rattle.whole.specs.Solver.{⇑, ⇓, ring}
-use Rattle.whole.specs.Booleans.{both, first-fails, second-fails, not-both}
+use Rattle.whole.specs.Booleans.{both, first-fails, not-both}
 use Rattle.whole.specs.Floor.{floorMod, floorMod-lt}
 use Rattle.whole.specs.Below.{every, every-none, every-next, every-false, every-at, below}
 use Rattle.whole.specs.Ranges.{Within}

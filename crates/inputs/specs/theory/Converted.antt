@@ -1,6 +1,6 @@
 -- The marks of a ready series, by index: each is a place of the list, its second can be converted, and it is not early. Assumes nothing.
 use mathlib.Core.Path.{_≡_, sym, ap, _∙_}
-use mathlib.Core.Bool.{true, false}
+use mathlib.Core.Bool.{true}
 use mathlib.Core.List.{List, [], _∷_}
 use Prim.Native.Nat.{ℕ, _+_, _*_, _-_, _<_}
 use native.Mathlib.Omega.{arith}
@@ -14,7 +14,7 @@ use Rattle.whole.specs.Solver.{⇑, ⇓, ring}
 use Rattle.whole.specs.Tests.{says-in-range}
 use Rattle.times.specs.declared.Second.{Second}
 use Rattle.clock.specs.Clock.{convertible, early, Readable}
-use Rattle.series.specs.Series.{Series, InSpan, segmentLength, lastSecond, segments}
+use Rattle.series.specs.Series.{Series, InSpan, segmentLength, segments}
 use Rattle.series.specs.Acceptance.{Accepted}
 use Rattle.series.specs.theory.Known.{facts}
 use Rattle.series.specs.theory.Span.{span-short}

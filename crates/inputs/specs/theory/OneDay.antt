@@ -2,10 +2,10 @@
 use mathlib.Core.Path.{_≡_, sym}
 use mathlib.Core.Bool.{true}
 use mathlib.Core.List.{List, [], _∷_}
-use Prim.Native.Nat.{ℕ, _+_, _-_, _*_, _<_, _≤_}
+use Prim.Native.Nat.{_-_, _*_, _<_, _≤_}
 use native.Mathlib.Omega.{arith}
 use native.Mathlib.Decide.{decLt}
-use lib.IntN.{ℤ, pos, _+ℤ_, _-ℤ_, _*ℤ_}
+use lib.IntN.{ℤ, pos, _-ℤ_, _*ℤ_}
 use Rattle.whole.specs.Parts.{_⩽_}
 use Rattle.whole.specs.Laws.{≤-antisymm}
 use Rattle.whole.specs.Booleans.{not-both}

@@ -1,13 +1,12 @@
 -- What is put where: one word, and the promises of putting a sui again, case by case. Assumes nothing.
 use mathlib.Core.Path.{_≡_, refl, sym, ap, _∙_}
 use mathlib.Core.Bool.{Bool, true, false, cond}
-use mathlib.Core.List.{List, [], _∷_, _++_, append-assoc}
-use Prim.Native.Nat.{ℕ, suc, _+_, _*_, _≤_, _<_}
+use mathlib.Core.List.{List, [], _∷_, _++_}
+use Prim.Native.Nat.{ℕ, suc, _+_, _<_}
 use native.Mathlib.Omega.{arith}
 use lib.IntN.{ℤ, pos}
-use lib.ListN.{length, set, take, drop, take-append-drop}
-use lib.Seq.{append-snoc, set-split, drop-append-le, drop-drop}
-use borrow.Rule.Slice.PartMut.{midOf, postOf, putMid}
+use lib.ListN.{length, set, take, drop}
+use lib.Seq.{append-snoc, set-split}
 use Rattle.whole.specs.Lists.{placed, placed-none}
 use Rattle.whole.specs.Evaluated.{sameWords}
 use Rattle.refusals.specs.Verdict.{Verdict, answered, refused, refused-then, answered-then, answer-or-refusal, _then_}

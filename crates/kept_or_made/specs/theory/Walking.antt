@@ -1,14 +1,14 @@
 -- A sui put again is the fresh one, whether its months were copied or made; and what the walk over the years holds from year to year. Assumes nothing.
 use mathlib.Core.Path.{_≡_, refl, sym, ap, ap₂, _∙_}
 use mathlib.Core.Bool.{Bool, true, false, cond}
-use mathlib.Core.List.{List, [], _∷_, _++_}
+use mathlib.Core.List.{List, [], _∷_}
 use Prim.Native.Nat.{ℕ, zero, suc, _+_, _-_, _*_, _/_, _≤_, _<_}
 use native.Mathlib.Omega.{arith}
 use native.Mathlib.Nat.{zero-add}
 use lib.IntN.{ℤ, pos, _+ℤ_}
 use lib.ListN.{length, take, drop, length-append}
 use Rattle.whole.specs.Evaluated.{sameWords}
-use Rattle.whole.specs.Lists.{placed, placed-none, placed-both, placed-length}
+use Rattle.whole.specs.Lists.{placed, placed-none, placed-both}
 use Rattle.refusals.specs.Verdict.{Verdict, answered, refused, answers-apart, answer-or-refusal, _then_}
 use Rattle.inputs.specs.Inputs.{Inputs}
 use Rattle.months.specs.declared.Sui.{Sui}
@@ -16,10 +16,10 @@ use Rattle.months.specs.declared.SuiDays.{SuiDays}
 use Rattle.months.specs.Months.{suiOf}
 use Rattle.months.specs.theory.Suis.{sui-count}
 use Rattle.turns.specs.declared.inner.TurnList.{TurnList}
-use Rattle.sui.specs.Sui.{suiDays, suiOfYear}
+use Rattle.sui.specs.Sui.{suiDays}
 use Rattle.suis.specs.declared.inner.Places.{Places}
-use Rattle.built.specs.Build.{suisFrom, suiWords, monthWords}
-use Rattle.build.specs.theory.Put.{monthsOf, yearWords, sui-months}
+use Rattle.built.specs.Build.{suisFrom, monthWords}
+use Rattle.build.specs.theory.Put.{monthsOf, sui-months}
 use Rattle.build.specs.theory.Walk.{Walks, Walked}
 use Rattle.kept_or_made.specs.declared.inner.years.Again.{Again}
 use Rattle.rebuilt.specs.Rebuild.{daysWords}

@@ -1,17 +1,12 @@
 -- `kept_years::list_years` meets its contract. Assumes nothing.
-use mathlib.Core.Path.{_≡_, sym, ap, _∙_}
+use mathlib.Core.Path.{sym, ap, _∙_}
 use native.Mathlib.Omega.{arith}
-use lib.ListN.{length}
 use Rattle.almanac.specs.Answers.{paperFile}
 use Rattle.almanac.specs.theory.Reader.{Checked, checked}
 use Rattle.kept_years.specs.theory.Listed.{not-listed, is-listed, passing-on}
 use borrow.Author.Needs.{needs}
 use Rattle.kept_years.proofs.list_years.Statement.{statement}
 use Rattle.kept_years.proofs.list_years.Tie as tie
-use Rattle.kept_years.proofs.list_years.Reads as reads
-use Rattle.kept_years.proofs.list_years.Lts as lts
-use Rattle.reader.proofs.check_file.Reads as check-file-reads
-use Rattle.kept_years.proofs.putting.put_suis.Reads as put-suis-reads
 
 -- what is known of the file once its counts are told
 known : (told : tie.After-checked2) → Checked (told .before .before .before .before .before .args .file .now) (told .checked2 .given .0 .0)

@@ -1,12 +1,10 @@
 -- `rebuild::rebuild` meets its contract. In the needs, `start` is the function's entry. Assumes nothing.
 use mathlib.Core.Path.{_≡_, sym, ap, _∙_}
-use mathlib.Core.List.{List}
-use Prim.Native.Nat.{ℕ}
 use native.Mathlib.Omega.{arith}
 use lib.ListN.{length}
 use mir.Facts.{toZ-ofZ}
 use Rattle.whole.specs.Ranges.{fits-of}
-use Rattle.refusals.specs.Verdict.{Verdict, answered, accepted-is, paperCheck, _then_}
+use Rattle.refusals.specs.Verdict.{answered, accepted-is, paperCheck, _then_}
 use Rattle.clock.specs.Clock.{utc8}
 use Rattle.inputs.specs.Inputs.{Inputs, inputs}
 use Rattle.inputs.specs.Theorems.{known}

@@ -1,18 +1,17 @@
 -- From the old file to the rebuild over its years: it is read, the old inputs are judged, and what is left is `rebuiltOver`. Assumes nothing.
-use mathlib.Core.Path.{_≡_, refl, sym, ap, ap₂, _∙_}
+use mathlib.Core.Path.{_≡_, refl, sym, ap, _∙_}
 use mathlib.Core.Bool.{Bool, true, false, not}
 use mathlib.Core.List.{List}
-use Prim.Native.Nat.{ℕ, _≤_, _<_}
-use native.Mathlib.Omega.{arith}
+use Prim.Native.Nat.{ℕ, _≤_}
 use lib.IntN.{ℤ, pos}
-use Rattle.whole.specs.Parts.{_⩽_, ℤ-rules}
+use Rattle.whole.specs.Parts.{ℤ-rules}
 use Rattle.whole.specs.Tests.{inRange, says-in-range}
 use Rattle.refusals.specs.Verdict.{Verdict, answered, refused, accepted, refuseWhen, then-answered, answers-apart, answer-or-refusal, _before_, _then_}
 use Rattle.inputs.specs.Inputs.{Inputs, inputsJudged}
 use Rattle.content.specs.Content.{Content}
 use Rattle.almanac.specs.Layout.{fileOf}
 use Rattle.built.specs.Build.{bytesOfYears, bytesBuilt, builtBy}
-use Rattle.rebuilt.specs.Rebuild.{Years, NewFile, isFile, mostBytes, newFileBy, keptBy, kept, given, givenBy, rebuilt, rebuiltBy, yearsIn}
+use Rattle.rebuilt.specs.Rebuild.{Years, NewFile, isFile, mostBytes, newFileBy, keptBy, kept, givenBy, rebuilt, rebuiltBy, yearsIn}
 use Rattle.rebuild.specs.theory.Over.{freshBytes, rebuiltOver}
 
 -- ---- a build of 1 to 128 years, behind the judgement of its inputs

@@ -1,24 +1,19 @@
 -- The rebuild over the years of the old file, behind the judgement of the old inputs: 13 unless these give the old file, then the new inputs, each sui, and the
 -- room. Assumes nothing.
-use mathlib.Core.Path.{_≡_, refl, sym, ap, ap₂, _∙_}
+use mathlib.Core.Path.{_≡_, refl, ap, _∙_}
 use mathlib.Core.Bool.{Bool, true, false, not}
 use mathlib.Core.List.{List, [], _∷_}
-use Prim.Native.Nat.{ℕ, _≤_, _<_}
-use native.Mathlib.Omega.{arith}
+use Prim.Native.Nat.{ℕ, _<_}
 use lib.IntN.{ℤ, pos, _+ℤ_}
-use lib.ListN.{length}
 use Rattle.whole.specs.Solver.{⇑, ring}
-use Rattle.whole.specs.Tests.{inRange}
-use Rattle.refusals.specs.Verdict.{Verdict, answered, refused, accepted, refuseWhen, _before_, _then_}
+use Rattle.refusals.specs.Verdict.{Verdict, refused, accepted, refuseWhen, _before_}
 use Rattle.refusals.specs.Lent.{writtenInto}
 use Rattle.inputs.specs.Inputs.{Inputs, inputsJudged}
 use Rattle.sui.specs.Sui.{suiOfYear}
-use Rattle.almanac.specs.Layout.{fileOf}
-use Rattle.content.specs.Content.{Content}
-use Rattle.built.specs.Build.{bytesOfYears, bytesBuilt, builtBy, bytesBy, contentBy, suisBy}
+use Rattle.built.specs.Build.{bytesOfYears, bytesBy, contentBy, suisBy}
 use Rattle.built.specs.theory.Years.{suis-refused}
 use Rattle.rebuilt.specs.declared.Rebuilt.{Rebuilt}
-use Rattle.rebuilt.specs.Rebuild.{Years, NewFile, isFile, mostBytes, newFileBy, keptBy, kept, rebuilt, rebuiltBy, givenBy, yearsIn, counted, new-bytes, kept-years}
+use Rattle.rebuilt.specs.Rebuild.{NewFile, isFile, mostBytes, newFileBy, keptBy, kept, counted, new-bytes, kept-years}
 
 -- the fresh build of n years, 1 to 128 of them, behind the judgement of its inputs
 abbrev pub freshBytes : Inputs → ℤ → ℤ → ℕ → ℕ → Verdict (List ℕ)

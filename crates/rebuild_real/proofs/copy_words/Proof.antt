@@ -1,13 +1,10 @@
 -- `rebuild_real::copy_words` is safe and ends: the words that are left are fewer at each turn. Assumes nothing.
-use mathlib.Core.Path.{_≡_, refl}
+use mathlib.Core.Path.{_≡_}
 use Prim.Native.Nat.{_-_}
 use borrow.Author.Needs.{needs}
 use lib.ListN.{length}
-use native.Mathlib.Omega.{arith}
 use Rattle.rebuild_real.proofs.copy_words.Statement.{statement}
 use Rattle.rebuild_real.proofs.copy_words.Tie as tie
-use Rattle.rebuild_real.proofs.copy_words.Reads as reads
-use Rattle.rebuild_real.proofs.copy_words.Lts as lts
 
 abbrev Inv-loop : tie.InvT-loop
 Inv-loop from to₀ i₀ to i = length to ≡ length to₀

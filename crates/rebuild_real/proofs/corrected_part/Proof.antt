@@ -3,11 +3,8 @@ use mathlib.Core.Path.{_≡_}
 use Prim.Native.Nat.{_-_}
 use borrow.Author.Needs.{needs}
 use lib.ListN.{length}
-use native.Mathlib.Omega.{arith}
 use Rattle.rebuild_real.proofs.corrected_part.Statement.{statement}
 use Rattle.rebuild_real.proofs.corrected_part.Tie as tie
-use Rattle.rebuild_real.proofs.corrected_part.Reads as reads
-use Rattle.rebuild_real.proofs.corrected_part.Lts as lts
 
 abbrev Inv-loop : tie.InvT-loop
 Inv-loop change part₀ i₀ part i = length part ≡ 14

@@ -3,11 +3,8 @@ use mathlib.Core.Path.{_≡_}
 use Prim.Native.Nat.{_-_}
 use borrow.Author.Needs.{needs}
 use lib.ListN.{length}
-use native.Mathlib.Omega.{arith}
 use Rattle.rebuild_real.proofs.make_room.Statement.{statement}
 use Rattle.rebuild_real.proofs.make_room.Tie as tie
-use Rattle.rebuild_real.proofs.make_room.Reads as reads
-use Rattle.rebuild_real.proofs.make_room.Lts as lts
 
 abbrev Inv-loop : tie.InvT-loop
 Inv-loop oldwords words₀ i₀ words i = length words ≡ length words₀

@@ -1,14 +1,8 @@
 -- `rebuild_real::rebuild_all` is safe and ends: the arguments that are left are fewer at each turn. Assumes nothing.
 use Prim.Native.Nat.{_-_}
 use borrow.Author.Needs.{needs}
-use native.Mathlib.Omega.{arith}
 use Rattle.rebuild_real.proofs.rebuild_all.Statement.{statement}
 use Rattle.rebuild_real.proofs.rebuild_all.Tie as tie
-use Rattle.rebuild_real.proofs.rebuild_all.Reads as reads
-use Rattle.rebuild_real.proofs.rebuild_all.Lts as lts
-use Rattle.os.proofs.arg_count.Reads as arg-count-reads
-use Rattle.rebuild_real.proofs.rebuild_case.Reads as rebuild-case-reads
-use Rattle.rebuild_real.proofs.rebuild_damaged.Reads as rebuild-damaged-reads
 
 abbrev Inv-loop : tie.InvT-loop
 Inv-loop old oldwords count i₀ i = Unit {0}

@@ -1,5 +1,5 @@
 -- `rebuild_real::rebuild_built` is safe. Assumes nothing.
-use mathlib.Core.Path.{_≡_, sym, ap, _∙_}
+use mathlib.Core.Path.{sym, ap, _∙_}
 use lib.Seq.{length-take-le}
 use Rattle.almanac.specs.Answers.{paperWritten}
 use Rattle.building.specs.Building.{builtFromTaken}
@@ -7,12 +7,6 @@ use Rattle.building.specs.theory.Cases.{written-inside}
 use borrow.Author.Needs.{needs}
 use Rattle.rebuild_real.proofs.rebuild_built.Statement.{statement}
 use Rattle.rebuild_real.proofs.rebuild_built.Tie as tie
-use Rattle.rebuild_real.proofs.rebuild_built.Reads as reads
-use Rattle.rebuild_real.proofs.rebuild_built.Lts as lts
-use Rattle.build_run.proofs.inner.file_room.Reads as file-room-reads
-use Rattle.build_run.proofs.inner.print_refusal.Reads as print-refusal-reads
-use Rattle.building.proofs.build_taken.Reads as build-taken-reads
-use Rattle.rebuild_real.proofs.rebuild_all.Reads as rebuild-all-reads
 
 file-room-requires : tie.Need-file-room-requires
 file-room-requires c κs = search needs

@@ -1,16 +1,10 @@
 -- `rebuild_real::rebuild_damaged` is safe. Assumes nothing.
-use mathlib.Core.Path.{_≡_, sym}
-use lib.ListN.{length, length-set}
+use mathlib.Core.Path.{sym}
+use lib.ListN.{length-set}
 use lib.Seq.{length-take-le}
 use borrow.Author.Needs.{needs}
 use Rattle.rebuild_real.proofs.rebuild_damaged.Statement.{statement}
 use Rattle.rebuild_real.proofs.rebuild_damaged.Tie as tie
-use Rattle.rebuild_real.proofs.rebuild_damaged.Reads as reads
-use Rattle.rebuild_real.proofs.rebuild_damaged.Lts as lts
-use Rattle.build_run.proofs.inner.file_room.Reads as file-room-reads
-use Rattle.bytes.proofs.copy.Reads as copy-reads
-use Rattle.io.proofs.write_all.Reads as write-all-reads
-use Rattle.rebuild_run.proofs.inner.print_rebuilt.Reads as print-rebuilt-reads
 
 slice-aggregate-write-all : tie.Need-slice-aggregate-write-all
 slice-aggregate-write-all c = search needs

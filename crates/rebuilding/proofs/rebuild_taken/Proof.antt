@@ -1,6 +1,5 @@
 -- `rebuilding::rebuild_taken` meets its contract. Assumes nothing.
 use mathlib.Core.Path.{_≡_, sym, ap, _∙_}
-use native.Mathlib.Omega.{arith}
 use lib.ListN.{length}
 use Rattle.refusals.specs.Verdict.{answered}
 use Rattle.layout.specs.Layout.{paperPlaces}
@@ -9,10 +8,6 @@ use Rattle.rebuilding.specs.theory.Cases.{placesTaken, Found, found, sec
 use borrow.Author.Needs.{needs}
 use Rattle.rebuilding.proofs.rebuild_taken.Statement.{statement}
 use Rattle.rebuilding.proofs.rebuild_taken.Tie as tie
-use Rattle.rebuilding.proofs.rebuild_taken.Reads as reads
-use Rattle.rebuilding.proofs.rebuild_taken.Lts as lts
-use Rattle.rebuilding.proofs.sections.find_sections.Reads as find-sections-reads
-use Rattle.rebuilding.proofs.sections.rebuild_sections.Reads as rebuild-sections-reads
 
 -- where the sections of the old input stand, and where those of the new one do
 old-places : (told : tie.After-oldplaces) → placesTaken (told .before .before .before .before .before .args .oldwords .now) (told .before .before .before .before .before .args .oldbytes) ≡ answered (told .oldplaces .given .0 .0)

@@ -26,7 +26,7 @@ use Rattle.months.specs.Limits.{yearInRange}
 use Rattle.sui.specs.Sui.{newMoonDays, solsticesIn, zhongqiDays, oneSolstice, suiDays, daysByMarks}
 use Rattle.turns.specs.theory.Counting.{by-small, by-later}
 use Rattle.turns.specs.Listed.{turnIndexOf, turnsOf, turn-by-last, turnDay, turnDays, turn-days-rise, turnsBy}
-use Rattle.sui.specs.theory.Solstices.{eve, solstice, solsticesBy, one-circle-on, one-in-year, not-one-in-year, zhongqi-are, new-moons-are}
+use Rattle.sui.specs.theory.Solstices.{eve, solsticesBy, one-circle-on, one-in-year, not-one-in-year, zhongqi-are, new-moons-are}
 
 module _ (leap : List ℤ) (s : Series) (zone : ℤ) where
   -- the index of the solstice in the year before, where there is one in that year and one in the year

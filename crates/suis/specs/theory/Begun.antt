@@ -1,13 +1,13 @@
 -- Where the first sui begins: what each outcome of the three tests says, and what that tells of the sui. Where it cannot begin, its year is refused by 8. Assumes
 -- nothing.
 use mathlib.Core.Path.{_≡_, refl, sym, ap, ap₂, _∙_}
-use mathlib.Core.Bool.{Bool, true, false, not, _&&_}
+use mathlib.Core.Bool.{Bool, true, false, not}
 use mathlib.Core.List.{List}
 use Prim.Native.Nat.{ℕ, zero, suc, _+_, _-_, _≤_, _<_}
 use native.Mathlib.Omega.{arith}
 use borrow.Author.Tests.{leb-true, leb-false, le-leb, lt-leb, eqb-true, eqb-false, eq-eqb, ne-eqb, not-false}
 use lib.Dec.{eqb, leb}
-use lib.IntN.{ℤ, pos, _+ℤ_, _-ℤ_}
+use lib.IntN.{ℤ, pos, _+ℤ_}
 use Rattle.whole.specs.Booleans.{first-fails}
 use Rattle.refusals.specs.Verdict.{Verdict, answered, refused, refuseWhen, _before_, _then_, test-answered, answers-apart, answer-or-refusal, refused-then}
 use Rattle.series.specs.Series.{Series}
@@ -16,12 +16,12 @@ use Rattle.inputs.specs.Known.{Known}
 use Rattle.months.specs.declared.SuiDays.{SuiDays}
 use Rattle.months.specs.declared.Sui.{Sui}
 use Rattle.months.specs.Limits.{yearInRange}
-use Rattle.months.specs.Months.{firstSolstice, byFirst, bySecond, isMissing, moonMissing, daysOf, suiOf}
+use Rattle.months.specs.Months.{firstSolstice, byFirst, isMissing, moonMissing, daysOf}
 use Rattle.months.specs.theory.Days.{days-missing}
 use Rattle.turns.specs.theory.Counting.{by-small}
 use Rattle.turns.specs.Listed.{turnIndexOf, turnDay, turnDays, turnsBy, turnsOf}
 use Rattle.sui.specs.Sui.{suiDays, suiOfYear}
-use Rattle.sui.specs.theory.Found.{oneInEach, firstSolsticeOf, zhongqiFrom, sui-days-are, out-of-range, missing-when, found-when}
+use Rattle.sui.specs.theory.Found.{oneInEach, zhongqiFrom, sui-days-are, out-of-range, missing-when, found-when}
 use Rattle.sui.specs.theory.Solstices.{eve}
 use Rattle.suis.specs.declared.inner.Places.{Places}
 use Rattle.suis.specs.Ahead.{begun, solsticesBefore, newMoonsBy}

@@ -1,6 +1,6 @@
 -- From sui to sui: an answered sui tells where the next one begins. Its first solstice is this one's second, and month 11's new moon lies as many places on as this
 -- sui has months. Assumes nothing.
-use mathlib.Core.Path.{_≡_, refl, sym, ap, ap₂, _∙_}
+use mathlib.Core.Path.{_≡_, refl, sym, ap, _∙_}
 use mathlib.Core.Bool.{Bool, true, false, cond}
 use mathlib.Core.List.{List, [], _∷_, append-nil}
 use Prim.Native.Nat.{ℕ, suc, _+_, _*_, _≤_, _<_}
@@ -8,16 +8,15 @@ use native.Mathlib.Omega.{arith}
 use borrow.Author.Tests.{eqb-true}
 use lib.Dec.{eqb}
 use lib.IntN.{ℤ, pos, _+ℤ_, _-ℤ_}
-use lib.ListN.{length, getD}
+use lib.ListN.{getD}
 use lib.Signed.{_≤ℤ_}
 use Rattle.whole.specs.Booleans.{both}
 use Rattle.whole.specs.Solver.{⇑, ring}
-use Rattle.whole.specs.Tabulated.{tabulate, getD-tabulate}
-use Rattle.refusals.specs.Verdict.{Verdict, answered, refused, then-answered, answers-apart, answer-or-refusal}
+use Rattle.whole.specs.Tabulated.{getD-tabulate}
+use Rattle.refusals.specs.Verdict.{answered, refused, then-answered, answers-apart, answer-or-refusal}
 use Rattle.series.specs.Series.{Series}
 use Rattle.inputs.specs.Inputs.{Inputs, sun, moon, dayOfMark}
 use Rattle.inputs.specs.Known.{Known}
-use Rattle.months.specs.declared.SuiDays.{SuiDays}
 use Rattle.months.specs.declared.Sui.{Sui}
 use Rattle.months.specs.Months.{firstSolstice, secondSolstice, byFirst, bySecond, monthCount, daysOf, suiOf}
 use Rattle.months.specs.theory.Listed.{at-most-thirteen}

@@ -1,24 +1,23 @@
 -- The month rule by a part of the new-moon days: from month 11 on, a part that reaches past the second solstice or to the last new moon finds the same days as all
 -- of them; and where fifteen in turn are not after the second solstice, there are more than thirteen months. Assumes nothing.
-use mathlib.Core.Path.{_≡_, refl, sym, ap, ap₂, _∙_}
+use mathlib.Core.Path.{_≡_, refl, sym, ap, _∙_}
 use mathlib.Core.Bool.{Bool, true, false, cond, not}
 use mathlib.Core.Logic.{_⊎_, ⊎-elim}
 use mathlib.Core.List.{List, _++_}
-use Prim.Native.Nat.{ℕ, suc, _+_, _-_, _≤_, _<_}
+use Prim.Native.Nat.{ℕ, _+_, _-_, _≤_, _<_}
 use native.Mathlib.Omega.{arith}
 use native.Mathlib.Nat.{zero-add}
 use borrow.Author.Tests.{leb-true, leb-false, le-leb, lt-leb, ne-eqb}
-use lib.Dec.{eqb, leb}
+use lib.Dec.{leb}
 use lib.IntN.{ℤ, pos}
-use lib.ListN.{length, take, drop, replicate}
-use lib.Signed.{_≤ℤ_, _<ℤ_}
+use lib.ListN.{take, drop, replicate}
+use lib.Signed.{_≤ℤ_}
 use Rattle.whole.specs.Tabulated.{tabulate, length-tabulate}
 use Rattle.whole.specs.Selected.{tabulate-same, tabulate-part}
 use Rattle.refusals.specs.Verdict.{Verdict, answered, refused, refuseWhen, _before_}
 use Rattle.months.specs.declared.SuiDays.{SuiDays}
 use Rattle.months.specs.Months.{firstSolstice, secondSolstice, byFirst, bySecond, isMissing, moonMissing, monthCount, twelveOrThirteen, daysFound, daysOf}
-use Rattle.months.specs.theory.Listed.{at-most-thirteen}
-use Rattle.turns.specs.theory.Counting.{Rises, by, by-small, by-later, is-by}
+use Rattle.turns.specs.theory.Counting.{Rises, by, by-small, by-later}
 use Rattle.suis.specs.Ahead.{crowded}
 use Rattle.suis.specs.theory.Counted.{from-place, by-part}
 

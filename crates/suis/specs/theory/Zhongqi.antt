@@ -6,10 +6,10 @@ use native.Mathlib.Omega.{arith}
 use native.Mathlib.Decide.{decLt}
 use native.Mathlib.Nat.{zero-add}
 use lib.IntN.{ℤ, pos, _+ℤ_}
-use lib.ListN.{length, getD, set, take, drop, length-append}
+use lib.ListN.{length, getD, take, drop, length-append}
 use lib.Signed.{_≤ℤ_}
-use lib.Seq.{append-snoc, set-split, take-suc, length-take-le, take-at, drop-at}
-use Rattle.whole.specs.Lists.{placed, placed-none, placed-both, placed-length}
+use lib.Seq.{take-at, drop-at}
+use Rattle.whole.specs.Lists.{placed, placed-none, placed-both}
 use Rattle.whole.specs.Tabulated.{length-tabulate}
 use Rattle.whole.specs.Solver.{⇑, ring}
 use Rattle.series.specs.declared.Body.the-variants.{Sun}

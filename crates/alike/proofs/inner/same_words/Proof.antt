@@ -13,9 +13,6 @@ use Rattle.alike.specs.Runs.{AllBefore, run-more}
 use Rattle.alike.specs.theory.Bits.{Gathered, all-before, one-more, all-tell}
 use Rattle.alike.proofs.inner.same_words.Statement.{statement}
 use Rattle.alike.proofs.inner.same_words.Tie as tie
-use Rattle.alike.proofs.inner.same_words.Reads as reads
-use Rattle.alike.proofs.inner.same_words.Lts as lts
-use Rattle.alike.proofs.runs.same_run.Reads as same-run-reads
 
 abbrev Inv-loop : tie.InvT-loop
 Inv-loop a b n i₀ i = (n ≡ length a) × ((n ≡ length b) × ((i ≤ n) × AllBefore a b i))

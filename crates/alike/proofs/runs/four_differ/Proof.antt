@@ -4,9 +4,6 @@ use Rattle.whole.specs.Ranges.{fits-of}
 use Rattle.alike.specs.theory.Bits.{none-of-four, no-word}
 use Rattle.alike.proofs.runs.four_differ.Statement.{statement}
 use Rattle.alike.proofs.runs.four_differ.Tie as tie
-use Rattle.alike.proofs.runs.four_differ.Reads as reads
-use Rattle.alike.proofs.runs.four_differ.Lts as lts
-use Rattle.alike.proofs.runs.differ.Reads as differ-reads
 
 differ-requires : tie.Need-differ-requires
 differ-requires c κs = search needs

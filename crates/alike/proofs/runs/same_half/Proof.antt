@@ -11,9 +11,6 @@ use Rattle.alike.specs.Runs.{SixteenAt}
 use Rattle.alike.specs.theory.Bits.{or-none, no-word, zero-not-negative}
 use Rattle.alike.proofs.runs.same_half.Statement.{statement}
 use Rattle.alike.proofs.runs.same_half.Tie as tie
-use Rattle.alike.proofs.runs.same_half.Reads as reads
-use Rattle.alike.proofs.runs.same_half.Lts as lts
-use Rattle.alike.proofs.runs.sixteen_differ.Reads as sixteen-differ-reads
 
 abbrev Inv-loop : tie.InvT-loop
 Inv-loop a b k differing₀ j₀ differing j = (j ≤ 28) × (differing ≡ 0 → (i : ℕ) → i < j → SixteenAt a b (k + 32 * i))

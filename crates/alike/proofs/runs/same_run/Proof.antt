@@ -5,9 +5,6 @@ use Rattle.alike.specs.Runs.{run-of}
 use borrow.Author.Needs.{needs}
 use Rattle.alike.proofs.runs.same_run.Statement.{statement}
 use Rattle.alike.proofs.runs.same_run.Tie as tie
-use Rattle.alike.proofs.runs.same_run.Reads as reads
-use Rattle.alike.proofs.runs.same_run.Lts as lts
-use Rattle.alike.proofs.runs.same_half.Reads as same-half-reads
 
 same-half-requires : tie.Need-same-half-requires
 same-half-requires c κs = search needs

@@ -4,9 +4,6 @@ use Rattle.whole.specs.Ranges.{fits-of}
 use Rattle.alike.specs.theory.Bits.{none-of-four, no-word}
 use Rattle.alike.proofs.runs.sixteen_differ.Statement.{statement}
 use Rattle.alike.proofs.runs.sixteen_differ.Tie as tie
-use Rattle.alike.proofs.runs.sixteen_differ.Reads as reads
-use Rattle.alike.proofs.runs.sixteen_differ.Lts as lts
-use Rattle.alike.proofs.runs.four_differ.Reads as four-differ-reads
 
 four-differ-requires : tie.Need-four-differ-requires
 four-differ-requires c κs = search needs

@@ -1,15 +1,12 @@
 -- `build_run::inner::take_all` meets its contract, and ends: a piece that is not the last has 65,536 bytes, so whole words. Assumes nothing.
 use mathlib.Core.Path.{_≡_}
-use Prim.Native.Nat.{_+_, _-_, _≤_}
+use Prim.Native.Nat.{_-_, _≤_}
 use native.Mathlib.Omega.{arith}
 use lib.ListN.{length}
 use Rattle.pieces.specs.Pieces.{TakenWhole}
 use Rattle.pieces.specs.Theorems.{nothing-taken, taken-so-far, last-taken, whole-taken, next-keeps-length}
 use Rattle.build_run.proofs.inner.take_all.Statement.{statement}
 use Rattle.build_run.proofs.inner.take_all.Tie as tie
-use Rattle.build_run.proofs.inner.take_all.Reads as reads
-use Rattle.build_run.proofs.inner.take_all.Lts as lts
-use Rattle.build_run.proofs.inner.take_next.Reads as take-next-reads
 
 abbrev Inv-loop : tie.InvT-loop
 Inv-loop fd words₀ taken₀ words taken = (taken ≤ 2082616) × (length words ≡ 252135) × TakenWhole words₀ words taken

@@ -1,14 +1,8 @@
 -- `build_run::inner::take_next` meets its contract: the piece is what the buffer holds of what was read. Assumes nothing.
 use lib.ListN.{take}
-use Rattle.pieces.specs.Pieces.{TakenNext}
 use borrow.Author.Needs.{needs}
 use Rattle.build_run.proofs.inner.take_next.Statement.{statement}
 use Rattle.build_run.proofs.inner.take_next.Tie as tie
-use Rattle.build_run.proofs.inner.take_next.Reads as reads
-use Rattle.build_run.proofs.inner.take_next.Lts as lts
-use Rattle.io.proofs.large_buffer.Reads as large-buffer-reads
-use Rattle.io.proofs.read_full.Reads as read-full-reads
-use Rattle.pieces.proofs.inner.take.Reads as take-reads
 
 large-buffer-requires : tie.Need-large-buffer-requires
 large-buffer-requires c κs = search needs

@@ -1,12 +1,9 @@
 -- `building::inner::all_taken` meets its contract. Assumes nothing.
-use mathlib.Core.Path.{_≡_, sym}
 use Prim.Native.Nat.{_%_}
 use borrow.Author.Tests.{le-leb, lt-leb, eq-eqb, ne-eqb}
 use Rattle.building.specs.Building.{lengthKept, allTaken}
 use Rattle.building.proofs.inner.all_taken.Statement.{statement}
 use Rattle.building.proofs.inner.all_taken.Tie as tie
-use Rattle.building.proofs.inner.all_taken.Reads as reads
-use Rattle.building.proofs.inner.all_taken.Lts as lts
 
 returns : tie.Need-returns
 unfolding allTaken lengthKept

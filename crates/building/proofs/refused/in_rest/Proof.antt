@@ -1,15 +1,11 @@
 -- `building::refused::in_rest` meets its contract. Assumes nothing.
-use mathlib.Core.Path.{_≡_, sym, ap, _∙_}
+use mathlib.Core.Path.{sym, ap, _∙_}
 use Rattle.layout.specs.Layout.{paperPlaces}
 use Rattle.layout.specs.theory.Sections.{places-inside}
 use Rattle.building.specs.theory.Blamed.{rest-broken, rest-found}
 use borrow.Author.Needs.{needs}
 use Rattle.building.proofs.refused.in_rest.Statement.{statement}
 use Rattle.building.proofs.refused.in_rest.Tie as tie
-use Rattle.building.proofs.refused.in_rest.Reads as reads
-use Rattle.building.proofs.refused.in_rest.Lts as lts
-use Rattle.building.proofs.refused.in_sections.Reads as in-sections-reads
-use Rattle.layout.proofs.inner.find_places.Reads as find-places-reads
 
 find-places-requires : tie.Need-find-places-requires
 find-places-requires c κs = search needs

@@ -8,9 +8,6 @@ use mir.Facts.{toZ-ofZ}
 use borrow.Author.Needs.{needs}
 use Rattle.building.proofs.refused.in_sections.Statement.{statement}
 use Rattle.building.proofs.refused.in_sections.Tie as tie
-use Rattle.building.proofs.refused.in_sections.Reads as reads
-use Rattle.building.proofs.refused.in_sections.Lts as lts
-use Rattle.building.proofs.refused.of_inputs.Reads as of-inputs-reads
 
 add-first : tie.Need-add-first
 add-first c = search needs

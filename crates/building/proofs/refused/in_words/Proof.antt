@@ -1,5 +1,5 @@
 -- `building::refused::in_words` meets its contract. Assumes nothing.
-use mathlib.Core.Path.{_≡_, sym, ap, _∙_}
+use mathlib.Core.Path.{sym, ap, _∙_}
 use Prim.Native.Nat.{_-_}
 use native.Mathlib.Omega.{arith}
 use lib.ListN.{length, drop, length-drop}
@@ -9,9 +9,6 @@ use Rattle.building.specs.theory.Blamed.{too-few, enough}
 use borrow.Author.Needs.{needs}
 use Rattle.building.proofs.refused.in_words.Statement.{statement}
 use Rattle.building.proofs.refused.in_words.Tie as tie
-use Rattle.building.proofs.refused.in_words.Reads as reads
-use Rattle.building.proofs.refused.in_words.Lts as lts
-use Rattle.building.proofs.refused.in_rest.Reads as in-rest-reads
 
 returns : tie.Need-returns
 returns c = too-few (c .before .args .words .now) (c .if1 .taken)

@@ -1,14 +1,10 @@
 -- `building::refused::of_inputs` meets its contract. Assumes nothing.
-use mathlib.Core.Path.{_≡_, _∙_}
+use mathlib.Core.Path.{_∙_}
 use Rattle.building.specs.Refused.{refusedOf}
 use Rattle.building.specs.theory.Blamed.{ends, goes-on, blames, clears}
 use borrow.Author.Needs.{needs}
 use Rattle.building.proofs.refused.of_inputs.Statement.{statement}
 use Rattle.building.proofs.refused.of_inputs.Tie as tie
-use Rattle.building.proofs.refused.of_inputs.Reads as reads
-use Rattle.building.proofs.refused.of_inputs.Lts as lts
-use Rattle.conversion.proofs.judge_leap_table.Reads as judge-leap-table-reads
-use Rattle.acceptance.proofs.accept.Reads as accept-reads
 
 judge-leap-table-requires : tie.Need-judge-leap-table-requires
 judge-leap-table-requires c κs = search needs

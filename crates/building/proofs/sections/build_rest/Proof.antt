@@ -1,5 +1,5 @@
 -- `building::sections::build_rest` meets its contract. Assumes nothing.
-use mathlib.Core.Path.{_≡_, sym, ap, _∙_}
+use mathlib.Core.Path.{sym, ap, _∙_}
 use lib.ListN.{length}
 use mir.Facts.{toZ-ofZ}
 use Rattle.layout.specs.Layout.{paperPlaces}
@@ -8,10 +8,6 @@ use Rattle.building.specs.theory.Cases.{refusing, passing-on, rest-broke
 use borrow.Author.Needs.{needs}
 use Rattle.building.proofs.sections.build_rest.Statement.{statement}
 use Rattle.building.proofs.sections.build_rest.Tie as tie
-use Rattle.building.proofs.sections.build_rest.Reads as reads
-use Rattle.building.proofs.sections.build_rest.Lts as lts
-use Rattle.building.proofs.sections.build_sections.Reads as build-sections-reads
-use Rattle.layout.proofs.inner.find_places.Reads as find-places-reads
 
 find-places-requires : tie.Need-find-places-requires
 find-places-requires c κs = search needs

@@ -9,9 +9,6 @@ use Rattle.built.specs.Build.{fileBuilt}
 use borrow.Author.Needs.{needs}
 use Rattle.building.proofs.sections.build_sections.Statement.{statement}
 use Rattle.building.proofs.sections.build_sections.Tie as tie
-use Rattle.building.proofs.sections.build_sections.Reads as reads
-use Rattle.building.proofs.sections.build_sections.Lts as lts
-use Rattle.build.proofs.build.Reads as build-reads
 
 add-first : tie.Need-add-first
 add-first c = search needs

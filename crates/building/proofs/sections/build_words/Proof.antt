@@ -1,5 +1,4 @@
 -- `building::sections::build_words` meets its contract. Assumes nothing.
-use mathlib.Core.Path.{_≡_, sym, ap, _∙_}
 use Prim.Native.Nat.{_-_}
 use native.Mathlib.Omega.{arith}
 use lib.IntN.{pos}
@@ -12,9 +11,6 @@ use Rattle.building.specs.theory.Cases.{refusing, passing-on, too-few, e
 use borrow.Author.Needs.{needs}
 use Rattle.building.proofs.sections.build_words.Statement.{statement}
 use Rattle.building.proofs.sections.build_words.Tie as tie
-use Rattle.building.proofs.sections.build_words.Reads as reads
-use Rattle.building.proofs.sections.build_words.Lts as lts
-use Rattle.building.proofs.sections.build_rest.Reads as build-rest-reads
 
 returns : tie.Need-returns
 returns c = let a = c .before .before .args in refusing (a .file .now) (too-few (a .words .now) (length (a .file .now)) (c .if1 .taken))

@@ -1,14 +1,12 @@
 -- `content::inner::judge_month` meets its contract. Assumes nothing.
-use mathlib.Core.Path.{_≡_, sym, ap, _∙_}
-use mathlib.Core.Bool.{true, false}
-use mathlib.Core.List.{[], _∷_}
+use mathlib.Core.Path.{_≡_, sym, _∙_}
+use mathlib.Core.Bool.{true}
 use Prim.Native.Nat.{_-_}
-use native.Mathlib.Omega.{arith}
 use borrow.Author.Needs.{needs}
 use borrow.Author.Tests.{not-true, not-false}
 use lib.IntN.{ℤ, pos, _+ℤ_}
 use mir.Facts.{toZ-ofZ}
-use Rattle.whole.specs.Ranges.{Within, fits, bounds, back}
+use Rattle.whole.specs.Ranges.{fits, bounds, back}
 use Rattle.whole.specs.Tests.{isExactly}
 use Rattle.content.specs.Steps.{daysAfter, ordinary, leapHandle, handleAfter}
 use Rattle.content.specs.theory.Judged.{ordinary-small, days-say, days-stop, ordinary-on, handle-stops, leap-on}

@@ -1,8 +1,8 @@
 -- `content::listed::months_listed` meets its contract. Assumes nothing.
-use mathlib.Core.Path.{_≡_, refl, sym, ap, _∙_}
-use mathlib.Core.Bool.{Bool, true, false}
+use mathlib.Core.Path.{_≡_, refl, ap, _∙_}
+use mathlib.Core.Bool.{true, false}
 use mathlib.Core.List.{[], _∷_}
-use Prim.Native.Nat.{ℕ, _+_, _*_, _-_, _^_, _≤_, _<_}
+use Prim.Native.Nat.{_+_, _*_, _-_, _^_, _≤_, _<_}
 use native.Mathlib.Omega.{arith}
 use borrow.Author.Needs.{needs}
 use borrow.Author.Tests.{not-true, not-false}
@@ -15,10 +15,10 @@ use Rattle.whole.specs.Parts.{→≤}
 use Rattle.whole.specs.Laws.{≤-trans}
 use Rattle.whole.specs.Booleans.{not-both}
 use Rattle.whole.specs.Solver.{⇑, ⇓, ring}
-use Rattle.whole.specs.Ranges.{Within, back}
+use Rattle.whole.specs.Ranges.{back}
 use Rattle.content.specs.Content.{monthAt}
 use Rattle.content.specs.Steps.{ordinary, walkedOn}
-use Rattle.content.specs.theory.Walk.{Due, MonthsSoFar, no-month-yet, month-next, month-stops, leaps-decide}
+use Rattle.content.specs.theory.Walk.{MonthsSoFar, no-month-yet, month-next, month-stops, leaps-decide}
 use Rattle.content.proofs.listed.months_listed.Statement.{statement}
 use Rattle.content.proofs.listed.months_listed.Tie as tie
 

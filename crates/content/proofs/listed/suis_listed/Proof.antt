@@ -1,7 +1,7 @@
 -- `content::listed::suis_listed` meets its contract. Assumes nothing.
-use mathlib.Core.Path.{_≡_, refl, sym, ap, _∙_}
-use mathlib.Core.Bool.{Bool, true, false}
-use Prim.Native.Nat.{ℕ, _+_, _*_, _-_, _/_, _^_, _≤_, _<_}
+use mathlib.Core.Path.{_≡_, sym, ap, _∙_}
+use mathlib.Core.Bool.{true}
+use Prim.Native.Nat.{_+_, _*_, _-_, _/_, _^_, _≤_, _<_}
 use native.Mathlib.Omega.{arith}
 use native.Mathlib.Nat.{div-add-mod'}
 use borrow.Author.Needs.{needs}
@@ -9,11 +9,11 @@ use borrow.Author.Tests.{not-true, not-false}
 use lib.IntN.{ℤ, pos, natAbs, _+ℤ_}
 use lib.ListN.{length, getD}
 use mir.Syntax.{w64}
-use mir.Val.{SFits, toZ, ofZ}
+use mir.Val.{SFits, toZ}
 use mir.Facts.{toZ-ofZ}
 use Rattle.whole.specs.Parts.{→≤}
 use Rattle.whole.specs.Laws.{≤-trans}
-use Rattle.whole.specs.Ranges.{Within, fits, bounds, back}
+use Rattle.whole.specs.Ranges.{fits, bounds, back}
 use Rattle.dates.specs.Answers.{hasDate}
 use Rattle.content.specs.Content.{yearAt, countAt, monthAt, goodMonths}
 use Rattle.content.specs.Steps.{suiAfter}

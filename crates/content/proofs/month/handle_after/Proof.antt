@@ -1,10 +1,10 @@
 -- `content::month::handle_after` meets its contract. Assumes nothing.
 use mathlib.Core.Path.{_≡_, sym, _∙_}
-use mathlib.Core.Bool.{true, false}
+use mathlib.Core.Bool.{true}
 use borrow.Author.Needs.{needs}
 use lib.IntN.{pos, _+ℤ_, _*ℤ_}
 use mir.Facts.{toZ-ofZ}
-use Rattle.whole.specs.Ranges.{Within, fits, bounds, bound-back, back}
+use Rattle.whole.specs.Ranges.{fits, bounds, bound-back, back}
 use Rattle.whole.specs.Tests.{isExactly}
 use Rattle.content.specs.theory.Judged.{after-twelfth, after-other}
 use Rattle.content.proofs.month.handle_after.Statement.{statement}

@@ -1,15 +1,10 @@
 -- `content::month::is_handle` meets its contract. Assumes nothing.
-use mathlib.Core.Path.{_≡_, sym, ap, _∙_}
-use mathlib.Core.Bool.{Bool, true, false}
-use Prim.Native.Nat.{ℕ, _+_, _*_, _-_, _≤_, _<_}
-use native.Mathlib.Omega.{arith}
-use borrow.Author.Tests.{not-true, not-false}
-use lib.IntN.{ℤ, pos, natAbs, _+ℤ_, _-ℤ_}
-use lib.ListN.{getD}
-use mir.Syntax.{w64}
-use mir.Val.{SFits, toZ, ofZ}
+use mathlib.Core.Path.{_≡_, ap}
+use mathlib.Core.Bool.{true}
+use Prim.Native.Nat.{_+_, _*_, _-_, _<_}
+use lib.IntN.{ℤ, pos, _+ℤ_, _-ℤ_}
 use mir.Facts.{toZ-ofZ}
-use Rattle.whole.specs.Ranges.{Within, fits, bounds, back}
+use Rattle.whole.specs.Ranges.{fits, back}
 use Rattle.months.specs.declared.Month.{Month}
 use Rattle.months.specs.Handles.{handleAt, monthOf}
 use borrow.Author.Needs.{needs}

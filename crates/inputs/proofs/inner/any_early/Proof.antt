@@ -1,13 +1,11 @@
 -- `inputs::inner::any_early` meets its contract: the first mark tells. Assumes nothing.
-use mathlib.Core.Path.{_≡_, refl, sym, ap, _∙_}
+use mathlib.Core.Path.{_≡_, sym, ap, _∙_}
 use Prim.Native.Nat.{_<_}
 use native.Mathlib.Omega.{arith}
 use borrow.Author.Needs.{needs}
 use lib.ListN.{length, getD}
-use Rattle.times.specs.declared.Second.{Second}
-use Rattle.clock.specs.Clock.{convertible, early}
+use Rattle.clock.specs.Clock.{early}
 use Rattle.series.specs.Series.{Series, series}
-use Rattle.marks.specs.Marks.{Mark}
 use Rattle.marks.specs.Answers.{noMark}
 use Rattle.marks.specs.Listed.{listedMarks}
 use Rattle.inputs.specs.Inputs.{second}

@@ -1,6 +1,6 @@
 -- `inputs::inner::day_of_mark` meets its contract. Assumes nothing.
 use mathlib.Core.Path.{_≡_, refl, sym, ap, ap₂, _∙_}
-use mathlib.Core.Bool.{true, _&&_}
+use mathlib.Core.Bool.{_&&_}
 use mathlib.Core.List.{List, [], _∷_}
 use native.Mathlib.Omega.{arith}
 use borrow.Author.Needs.{needs}
@@ -11,7 +11,7 @@ use mir.Val.{toZ, ofZ}
 use mir.Facts.{toZ-ofZ}
 use Rattle.whole.specs.Parts.{_⩽_}
 use Rattle.whole.specs.Floor.{floorMod}
-use Rattle.whole.specs.Ranges.{Within, fits, bounds, back}
+use Rattle.whole.specs.Ranges.{fits, bounds, back}
 use Rattle.whole.specs.Booleans.{both}
 use Rattle.whole.specs.Solver.{⇑, ⇓, ring, le-yes}
 use Rattle.times.specs.declared.Second.{Second}

@@ -14,9 +14,6 @@ use Rattle.kept_years.specs.KeptYears.{isAmong}
 use Rattle.kept_years.specs.theory.Among.{among-here, among-turn, among-end}
 use Rattle.kept_years.proofs.lines.is_among.Statement.{statement}
 use Rattle.kept_years.proofs.lines.is_among.Tie as tie
-use Rattle.kept_years.proofs.lines.is_among.Reads as reads
-use Rattle.kept_years.proofs.lines.is_among.Lts as lts
-use Rattle.whole.proofs.inner.in_range.Reads as in-range-reads
 
 abbrev Inv-loop : tie.InvT-loop
 Inv-loop year years i₀ i = (i ≤ length years) × (isAmong (toZ w64 year) (drop i years) ≡ isAmong (toZ w64 year) years)

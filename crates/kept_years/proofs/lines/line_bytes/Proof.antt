@@ -11,11 +11,6 @@ use Rattle.kept_years.specs.KeptYears.{isAmong, row, line}
 use borrow.Author.Needs.{needs}
 use Rattle.kept_years.proofs.lines.line_bytes.Statement.{statement}
 use Rattle.kept_years.proofs.lines.line_bytes.Tie as tie
-use Rattle.kept_years.proofs.lines.line_bytes.Reads as reads
-use Rattle.kept_years.proofs.lines.line_bytes.Lts as lts
-use Rattle.kept_years.proofs.lines.is_among.Reads as is-among-reads
-use Rattle.kept_years.proofs.lines.row_bytes.Reads as row-bytes-reads
-use Rattle.whole.proofs.absolute.Reads as absolute-reads
 
 line-is : (year : ℤ) (years : List ℤ) {size : ℕ} {kept : Bool} → size ≡ natAbs year → kept ≡ isAmong year years → row size kept ≡ line year years
 unfolding line

@@ -5,10 +5,6 @@ use Rattle.kept_years.specs.KeptYears.{row}
 use Rattle.kept_years.specs.theory.Among.{letters}
 use Rattle.kept_years.proofs.lines.row_bytes.Statement.{statement}
 use Rattle.kept_years.proofs.lines.row_bytes.Tie as tie
-use Rattle.kept_years.proofs.lines.row_bytes.Reads as reads
-use Rattle.kept_years.proofs.lines.row_bytes.Lts as lts
-use Rattle.kept_years.proofs.lines.letter.Reads as letter-reads
-use Rattle.text.proofs.inner.digit.Reads as digit-reads
 
 digit-requires : tie.Need-digit-requires
 digit-requires c κs = search needs

@@ -12,11 +12,6 @@ use Rattle.kept_years.specs.KeptYears.{line, lines}
 use Rattle.kept_years.specs.theory.Putting.{no-lines, lines-turn}
 use Rattle.kept_years.proofs.putting.put_lines.Statement.{statement}
 use Rattle.kept_years.proofs.putting.put_lines.Tie as tie
-use Rattle.kept_years.proofs.putting.put_lines.Reads as reads
-use Rattle.kept_years.proofs.putting.put_lines.Lts as lts
-use Rattle.kept_years.proofs.lines.line_bytes.Reads as line-bytes-reads
-use Rattle.kept_years.proofs.putting.year_at.Reads as year-at-reads
-use Rattle.text.proofs.inner.put.Reads as put-reads
 
 abbrev Inv-loop : tie.InvT-loop
 Inv-loop file n years out₀ count i₀ out i = (i ≤ n .suis) × ((length out ≡ length out₀) × (out ≡ placed 0 (lines (contentAt file n .suis) years i) out₀))

@@ -4,9 +4,6 @@ use Rattle.almanac.specs.Layout.{contentAt}
 use Rattle.kept_years.specs.theory.Putting.{no-room, all-put}
 use Rattle.kept_years.proofs.putting.put_suis.Statement.{statement}
 use Rattle.kept_years.proofs.putting.put_suis.Tie as tie
-use Rattle.kept_years.proofs.putting.put_suis.Reads as reads
-use Rattle.kept_years.proofs.putting.put_suis.Lts as lts
-use Rattle.kept_years.proofs.putting.put_lines.Reads as put-lines-reads
 
 mul-bytes : tie.Need-mul-bytes
 mul-bytes c = search needs

@@ -1,13 +1,10 @@
 -- `kept_years::putting::year_at` meets its contract. Assumes nothing.
-use mathlib.Core.Path.{_≡_, sym, _∙_}
+use mathlib.Core.Path.{sym, _∙_}
 use Rattle.whole.specs.Ranges.{back}
 use Rattle.almanac.specs.theory.Records.{sui-stands}
 use borrow.Author.Needs.{needs}
 use Rattle.kept_years.proofs.putting.year_at.Statement.{statement}
 use Rattle.kept_years.proofs.putting.year_at.Tie as tie
-use Rattle.kept_years.proofs.putting.year_at.Reads as reads
-use Rattle.kept_years.proofs.putting.year_at.Lts as lts
-use Rattle.words.proofs.inner.signed4_at.Reads as signed4-at-reads
 
 mul-signed4-at : tie.Need-mul-signed4-at
 mul-signed4-at c = search needs

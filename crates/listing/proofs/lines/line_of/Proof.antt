@@ -12,11 +12,10 @@ use Rattle.whole.specs.Floor.{floorMod}
 use Rattle.whole.specs.Ranges.{back}
 use Rattle.text.specs.declared.Moment.{Moment}
 use Rattle.clock.specs.Clock.{utc8, shownIn}
-use Rattle.clock.specs.declared.ShownTime.{ShownTime}
 use Rattle.series.specs.declared.Body.{Body}
 use Rattle.series.specs.declared.Body.the-variants.{Sun, Moon}
 use Rattle.series.specs.Bodies.{numbers}
-use Rattle.series.specs.Series.{Series, series}
+use Rattle.series.specs.Series.{series}
 use Rattle.marks.specs.Listed.{listedMarks}
 use Rattle.marks.specs.Marks.{Mark}
 use Rattle.marks.specs.Answers.{noMark}
@@ -26,8 +25,6 @@ use Rattle.listing.specs.Lines.{momentOf, momentLine}
 use Rattle.listed.specs.Listing.{letter, lineOf}
 use Rattle.listing.proofs.lines.line_of.Statement.{statement}
 use Rattle.listing.proofs.lines.line_of.Tie as tie
-use Rattle.listing.proofs.lines.line_of.Reads as reads
-use Rattle.listing.proofs.lines.line_of.Lts as lts
 
 line : (body : Body) (leap : List ℤ) (m : Mark) {l i : ℕ} {moment : Moment} → l ≡ letter body → i ≡ floorMod (m .index) (numbers body .circle) → moment ≡ momentOf (shownIn leap (second m) utc8) → momentLine l i moment ≡ lineOf body leap m
 unfolding lineOf

@@ -1,8 +1,8 @@
 -- `listing::parts::put_input` meets its contract. Assumes nothing.
 use borrow.Author.Needs.{needs}
-use mathlib.Core.Path.{_≡_, sym, ap, _∙_}
-use Rattle.refusals.specs.Verdict.{Verdict, answered, refusal, accepted, accepted-is, refused-first, accepted-first}
-use Rattle.inputs.specs.Inputs.{Inputs, inputs, inputsJudged}
+use mathlib.Core.Path.{sym, ap}
+use Rattle.refusals.specs.Verdict.{answered, accepted-is, refused-first, accepted-first}
+use Rattle.inputs.specs.Inputs.{Inputs, inputs}
 use Rattle.inputs.specs.Theorems.{known}
 use Rattle.listed.specs.Listing.{linesOf, listed, printed}
 use Rattle.listing.proofs.parts.put_input.Statement.{statement}

@@ -16,7 +16,6 @@ use Rattle.series.specs.Bodies.{numbers}
 use Rattle.series.specs.Series.{Series, series, InSpan, valueAt, lastSecond}
 use Rattle.series.specs.Theorems.{accepted-rises}
 use Rattle.series.specs.theory.Span.{span-ordered, value-in-span}
-use Rattle.marks.specs.Stretch.{Around, Enclosed}
 use Rattle.marks.specs.Listed.{MarkAt, secondOfMark}
 use Rattle.marks.specs.Theorems.{located-crossing}
 use Rattle.marks.specs.theory.Slope.{mark-ahead, mark-behind}

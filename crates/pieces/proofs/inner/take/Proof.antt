@@ -1,21 +1,15 @@
 -- `pieces::inner::take` meets its contract. Assumes nothing.
-use mathlib.Core.Path.{_≡_, refl, sym, ap, _∙_}
-use mathlib.Core.List.{List, _++_, append-assoc}
-use Prim.Native.Nat.{ℕ, _+_, _-_, _/_, _≤_}
+use mathlib.Core.Path.{refl, sym, ap, _∙_}
+use Prim.Native.Nat.{_+_, _-_, _/_, _≤_}
 use native.Mathlib.Omega.{arith}
-use lib.IntN.{ℤ}
-use lib.ListN.{length, take, drop, take-append-drop, length-drop}
-use lib.Seq.{drop-append-le, drop-drop}
-use borrow.Rule.Slice.PartMut.{midOf, postOf, putMid, mid-len}
+use lib.ListN.{length}
+use borrow.Rule.Slice.PartMut.{midOf, putMid, mid-len}
 use Rattle.whole.specs.Lists.{put-back}
 use Rattle.words.specs.Words.{words, words-length}
 use Rattle.pieces.specs.theory.Cases.{too-long, inside-a-word, kept}
 use borrow.Author.Needs.{needs}
 use Rattle.pieces.proofs.inner.take.Statement.{statement}
 use Rattle.pieces.proofs.inner.take.Tie as tie
-use Rattle.pieces.proofs.inner.take.Reads as reads
-use Rattle.pieces.proofs.inner.take.Lts as lts
-use Rattle.words.proofs.inner.read_words.Reads as read-words-reads
 
 add-bytes : tie.Need-add-bytes
 add-bytes c = search needs

@@ -1,24 +1,24 @@
 -- `reader::checking::months_at` meets its contract. Assumes nothing.
-use mathlib.Core.Path.{_≡_, refl, sym, ap, subst, _∙_}
-use mathlib.Core.Bool.{Bool, true, false}
+use mathlib.Core.Path.{_≡_, refl, ap, subst, _∙_}
+use mathlib.Core.Bool.{false}
 use mathlib.Core.List.{[], _∷_}
 use Prim.Native.Nat.{ℕ, _+_, _*_, _-_, _≤_, _<_}
 use native.Mathlib.Omega.{arith}
 use borrow.Author.Needs.{needs}
 use borrow.Author.Tests.{not-true, not-false}
-use lib.IntN.{ℤ, pos, natAbs}
+use lib.IntN.{natAbs}
 use lib.ListN.{length}
 use mir.Syntax.{w64}
-use mir.Val.{SFits, toZ, ofZ}
+use mir.Val.{toZ, ofZ}
 use mir.Facts.{toZ-ofZ}
 use Rattle.whole.specs.Parts.{→≤}
 use Rattle.whole.specs.Laws.{≤-trans}
 use Rattle.whole.specs.Booleans.{not-both}
 use Rattle.whole.specs.Solver.{⇑, ⇓, ring}
-use Rattle.whole.specs.Ranges.{Within, back}
+use Rattle.whole.specs.Ranges.{back}
 use Rattle.content.specs.Content.{monthAt}
 use Rattle.content.specs.Steps.{ordinary, walkedOn}
-use Rattle.content.specs.theory.Walk.{Due, MonthsSoFar, no-month-yet, month-next, month-stops, leaps-decide}
+use Rattle.content.specs.theory.Walk.{MonthsSoFar, no-month-yet, month-next, month-stops, leaps-decide}
 use Rattle.almanac.specs.Layout.{contentAt}
 use Rattle.reader.proofs.checking.months_at.Statement.{statement}
 use Rattle.reader.proofs.checking.months_at.Tie as tie

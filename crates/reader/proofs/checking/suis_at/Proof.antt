@@ -1,6 +1,6 @@
 -- `reader::checking::suis_at` meets its contract. Assumes nothing.
 use mathlib.Core.Path.{_≡_, sym, ap, ap₂, subst, _∙_}
-use mathlib.Core.Bool.{Bool, true, false}
+use mathlib.Core.Bool.{true}
 use mathlib.Core.List.{List}
 use Prim.Native.Nat.{ℕ, _+_, _*_, _-_, _/_, _^_, _≤_, _<_}
 use native.Mathlib.Omega.{arith}
@@ -11,11 +11,10 @@ use lib.Dec.{eqb}
 use lib.IntN.{ℤ, pos, natAbs, _+ℤ_}
 use lib.ListN.{length}
 use mir.Syntax.{w64}
-use mir.Val.{SFits, toZ, ofZ}
-use mir.Facts.{toZ-ofZ}
+use mir.Val.{toZ}
 use Rattle.whole.specs.Parts.{→≤}
 use Rattle.whole.specs.Laws.{≤-trans}
-use Rattle.whole.specs.Ranges.{Within, fits, bounds, back}
+use Rattle.whole.specs.Ranges.{fits, bounds, back}
 use Rattle.dates.specs.Answers.{hasDate}
 use Rattle.content.specs.Content.{yearAt, countAt, monthAt, goodMonths}
 use Rattle.content.specs.Steps.{suiAfter}

@@ -1,18 +1,14 @@
 -- `reader::reading::read_suis` meets its contract. Assumes nothing.
-use mathlib.Core.Path.{_≡_, refl, sym, ap, _∙_}
-use mathlib.Core.List.{List, [], _∷_, _++_}
-use Prim.Native.Nat.{ℕ, _+_, _*_, _-_, _≤_, _<_}
+use mathlib.Core.Path.{_≡_, refl, _∙_}
+use mathlib.Core.List.{_++_}
+use Prim.Native.Nat.{_+_, _*_, _-_, _≤_}
 use native.Mathlib.Omega.{arith}
 use borrow.Author.Needs.{needs}
-use lib.IntN.{ℤ, pos}
 use lib.ListN.{length, drop, length-set}
-use mir.Syntax.{w64}
-use mir.Val.{SFits}
-use mir.Facts.{toZ-ofZ}
 use Rattle.whole.specs.Ranges.{back}
 use Rattle.almanac.specs.Fields.{times, widths, numbersIn}
 use Rattle.almanac.specs.Layout.{suiFields}
-use Rattle.almanac.specs.theory.Sections.{read-turn, read-none, two-stored}
+use Rattle.almanac.specs.theory.Sections.{read-turn, two-stored}
 use Rattle.reader.proofs.reading.read_suis.Statement.{statement}
 use Rattle.reader.proofs.reading.read_suis.Tie as tie
 

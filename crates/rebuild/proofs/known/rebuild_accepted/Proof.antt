@@ -5,7 +5,6 @@ use mir.Facts.{toZ-ofZ}
 use Rattle.inputs.specs.Inputs.{Inputs, inputs, sun, moon}
 use Rattle.suis.specs.Ahead.{paperBegin, begun}
 use Rattle.suis.specs.theory.Begun.{begun-answered, begun-refused}
-use Rattle.build.specs.theory.Walk.{Begins}
 use Rattle.rebuilt.specs.Rebuild.{mostBytes}
 use Rattle.rebuild.specs.theory.Over.{rebuiltOver, says-refused, old-refused, first-refused}
 use borrow.Author.Needs.{needs}

@@ -7,10 +7,6 @@ use mir.Facts.{toZ-ofZ}
 use borrow.Author.Needs.{needs}
 use Rattle.rebuild.proofs.known.rebuild_begun.Statement.{statement}
 use Rattle.rebuild.proofs.known.rebuild_begun.Tie as tie
-use Rattle.rebuild.proofs.known.rebuild_begun.Reads as reads
-use Rattle.rebuild.proofs.known.rebuild_begun.Lts as lts
-use Rattle.build.proofs.inner.ahead.find_ahead.Reads as find-ahead-reads
-use Rattle.rebuild.proofs.known.rebuild_found.Reads as rebuild-found-reads
 
 abbrev Found : Type 0
 Found = tie.After-find-ahead

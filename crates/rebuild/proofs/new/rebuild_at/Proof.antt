@@ -7,10 +7,6 @@ use mir.Facts.{toZ-ofZ}
 use borrow.Author.Needs.{needs}
 use Rattle.rebuild.proofs.new.rebuild_at.Statement.{statement}
 use Rattle.rebuild.proofs.new.rebuild_at.Tie as tie
-use Rattle.rebuild.proofs.new.rebuild_at.Reads as reads
-use Rattle.rebuild.proofs.new.rebuild_at.Lts as lts
-use Rattle.found_again.proofs.inner.find_again.Reads as find-again-reads
-use Rattle.rebuild.proofs.writing.rebuild_from.Reads as rebuild-from-reads
 
 abbrev Found : Type 0
 Found = tie.After-find-again

@@ -1,18 +1,17 @@
 -- `rebuild::new::rebuild_new` meets its contract. In the needs, `start` is the function's entry. Assumes nothing.
-use mathlib.Core.Path.{_≡_, refl, sym, ap, _∙_}
+use mathlib.Core.Path.{_≡_, sym, ap, _∙_}
 use mathlib.Core.List.{List}
 use Prim.Native.Nat.{ℕ}
 use lib.IntN.{ℤ}
 use lib.ListN.{length}
 use mir.Facts.{toZ-ofZ}
-use Rattle.refusals.specs.Verdict.{Verdict, accepted, accepted-is, refusal, paperCheck}
+use Rattle.refusals.specs.Verdict.{Verdict, accepted, accepted-is, paperCheck}
 use Rattle.inputs.specs.Inputs.{Inputs, inputs, sun, moon, inputsJudged}
 use Rattle.inputs.specs.Known.{Known}
 use Rattle.inputs.specs.Theorems.{known}
 use Rattle.suis.specs.Ahead.{paperBegin, begun}
 use Rattle.suis.specs.theory.Begun.{begun-answered, begun-refused}
 use Rattle.built.specs.Build.{bytesOfYears}
-use Rattle.build.specs.theory.Walk.{Begins}
 use Rattle.rebuilt.specs.Rebuild.{newFileBy}
 use Rattle.kept_or_made.specs.Again.{listedAgain}
 use Rattle.rebuild.specs.theory.Over.{freshBytes, says-refused, same-says, new-refused, new-accepted, not-built-new, first-refused}

@@ -1,25 +1,22 @@
 -- `rebuild::writing::rebuild_from` meets its contract. In the needs, `start` is the function's entry. Assumes nothing.
 use mathlib.Core.Path.{_≡_, refl, sym, ap, _∙_}
-use mathlib.Core.List.{List, _++_}
-use Prim.Native.Nat.{ℕ, _+_, _*_, _/_, _≤_, _<_}
+use mathlib.Core.List.{List}
+use Prim.Native.Nat.{ℕ, _*_, _≤_}
 use native.Mathlib.Omega.{arith}
-use native.Mathlib.Nat.{zero-add}
 use lib.IntN.{ℤ}
-use lib.ListN.{length, take, drop, length-replicate}
-use lib.Seq.{take-at, length-take-le}
+use lib.ListN.{length, take, length-replicate}
+use lib.Seq.{take-at}
 use mir.Syntax.{w64}
 use mir.Val.{toZ, ofZ}
 use mir.Facts.{toZ-ofZ}
-use Rattle.whole.specs.Lists.{placed}
-use Rattle.refusals.specs.Verdict.{Verdict, answered, refused}
+use Rattle.refusals.specs.Verdict.{Verdict}
 use Rattle.inputs.specs.Inputs.{Inputs, inputs}
-use Rattle.months.specs.declared.Sui.{Sui}
 use Rattle.content.specs.Content.{Content, content}
-use Rattle.almanac.specs.Answers.{paperWritten, bytesInto}
-use Rattle.built.specs.Build.{suisFrom, suiWords, monthWords, bytesOfYears}
+use Rattle.almanac.specs.Answers.{bytesInto}
+use Rattle.built.specs.Build.{suiWords, monthWords, bytesOfYears}
 use Rattle.build.specs.theory.File.{months-few, front-suis, sui-length, month-length, front-months, words-lawful}
 use Rattle.kept_or_made.specs.declared.inner.years.Again.{Again as AgainRecord}
-use Rattle.kept_or_made.specs.declared.inner.years.AgainAnswer.the-variants.{Again, Refused}
+use Rattle.kept_or_made.specs.declared.inner.years.AgainAnswer.the-variants.{Again}
 use Rattle.kept_or_made.specs.Again.{paperAgain, yearsAgain, listedAgain}
 use Rattle.kept_or_made.specs.theory.Walking.{YearsFound, years-refused, years-found, listed-few}
 use Rattle.new_file.specs.NewFile.{not-built, same-promises}

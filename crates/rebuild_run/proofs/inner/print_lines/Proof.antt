@@ -1,5 +1,5 @@
 -- `rebuild_run::inner::print_lines` is safe. Assumes nothing.
-use mathlib.Core.Path.{_≡_, sym, ap, _∙_}
+use mathlib.Core.Path.{sym, ap, _∙_}
 use lib.Seq.{length-take-le}
 use Rattle.almanac.specs.Answers.{paperWritten}
 use Rattle.building.specs.theory.Cases.{written-inside}
@@ -7,12 +7,6 @@ use Rattle.kept_years.specs.Answers.{linesListed}
 use borrow.Author.Needs.{needs}
 use Rattle.rebuild_run.proofs.inner.print_lines.Statement.{statement}
 use Rattle.rebuild_run.proofs.inner.print_lines.Tie as tie
-use Rattle.rebuild_run.proofs.inner.print_lines.Reads as reads
-use Rattle.rebuild_run.proofs.inner.print_lines.Lts as lts
-use Rattle.build_run.proofs.inner.print_refusal.Reads as print-refusal-reads
-use Rattle.io.proofs.write_all.Reads as write-all-reads
-use Rattle.kept_years.proofs.list_years.Reads as list-years-reads
-use Rattle.rebuild_run.proofs.inner.line_room.Reads as line-room-reads
 
 line-room-requires : tie.Need-line-room-requires
 line-room-requires c κs = search needs

@@ -1,5 +1,5 @@
 -- `rebuild_run::inner::print_rebuilt` is safe. Assumes nothing.
-use mathlib.Core.Path.{_≡_, sym, ap, _∙_}
+use mathlib.Core.Path.{sym, ap, _∙_}
 use Prim.Native.Nat.{_≤_}
 use lib.ListN.{length}
 use lib.Seq.{length-take-le}
@@ -9,13 +9,6 @@ use Rattle.rebuilding.specs.theory.Cases.{new-inside}
 use borrow.Author.Needs.{needs}
 use Rattle.rebuild_run.proofs.inner.print_rebuilt.Statement.{statement}
 use Rattle.rebuild_run.proofs.inner.print_rebuilt.Tie as tie
-use Rattle.rebuild_run.proofs.inner.print_rebuilt.Reads as reads
-use Rattle.rebuild_run.proofs.inner.print_rebuilt.Lts as lts
-use Rattle.build_run.proofs.inner.file_room.Reads as file-room-reads
-use Rattle.rebuild_run.proofs.inner.print_new.Reads as print-new-reads
-use Rattle.rebuild_run.proofs.inner.print_refused.Reads as print-refused-reads
-use Rattle.rebuild_run.proofs.inner.year_room.Reads as year-room-reads
-use Rattle.rebuilding.proofs.rebuild_taken.Reads as rebuild-taken-reads
 
 -- what was written of the file and of the years is there
 known : (told : tie.After-answer2) → (told .answer2 .given .0 .0 .bytes ≤ length (told .before .before .before .before .rebuild-taken .last .1 .1 .1 .1 .1 .0)) × (told .answer2 .given .0 .0 .years ≤ length (told .before .before .before .before .rebuild-taken .last .1 .1 .1 .1 .1 .1 .0))

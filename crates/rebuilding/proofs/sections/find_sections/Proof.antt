@@ -1,5 +1,5 @@
 -- `rebuilding::sections::find_sections` meets its contract. Assumes nothing.
-use mathlib.Core.Path.{_≡_, sym, ap, _∙_}
+use mathlib.Core.Path.{_≡_, sym, _∙_}
 use mathlib.Core.Bool.{true, false}
 use Prim.Native.Nat.{_/_, _-_}
 use native.Mathlib.Omega.{arith}
@@ -12,10 +12,6 @@ use Rattle.rebuilding.specs.theory.Cases.{not-taken, too-few, enough}
 use borrow.Author.Needs.{needs}
 use Rattle.rebuilding.proofs.sections.find_sections.Statement.{statement}
 use Rattle.rebuilding.proofs.sections.find_sections.Tie as tie
-use Rattle.rebuilding.proofs.sections.find_sections.Reads as reads
-use Rattle.rebuilding.proofs.sections.find_sections.Lts as lts
-use Rattle.building.proofs.inner.all_taken.Reads as all-taken-reads
-use Rattle.layout.proofs.inner.find_places.Reads as find-places-reads
 
 is-not-taken : (c : tie.Then1) → allTaken (c .before .before .args .words .now) (c .before .before .args .bytes) ≡ false
 is-not-taken c = sym (c .before .all-taken .ensures) ∙ not-true (c .before .all-taken .result) (c .if1 .taken)

@@ -14,9 +14,6 @@ use Rattle.rebuilding.specs.theory.Cases.{by-inputs}
 use borrow.Author.Needs.{needs}
 use Rattle.rebuilding.proofs.sections.rebuild_sections.Statement.{statement}
 use Rattle.rebuilding.proofs.sections.rebuild_sections.Tie as tie
-use Rattle.rebuilding.proofs.sections.rebuild_sections.Reads as reads
-use Rattle.rebuilding.proofs.sections.rebuild_sections.Lts as lts
-use Rattle.rebuild.proofs.rebuild.Reads as rebuild-reads
 
 -- two starts that were handed over as bits are those of the words
 read-back : (ws : List ℤ) (p : Places) → SFits w64 (getD ws (p .sun + 1) (pos 0)) → SFits w64 (getD ws (p .moon + 1) (pos 0)) → inputs (wordsFrom ws 1 (p .sun)) (toZ w64 (ofZ w64 (getD ws (p .sun + 1) (pos 0)))) (wordsFrom ws (p .sun + 2) (p .moon)) (toZ w64 (ofZ w64 (getD ws (p .moon + 1) (pos 0)))) (wordsFrom ws (p .moon + 2) (length ws)) ≡ inputsAt ws p

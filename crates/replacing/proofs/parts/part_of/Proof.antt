@@ -13,8 +13,6 @@ use mir.Facts.{toZ-ofZ}
 use Rattle.whole.specs.Tabulated.{copy-turn}
 use Rattle.replacing.proofs.parts.part_of.Statement.{statement}
 use Rattle.replacing.proofs.parts.part_of.Tie as tie
-use Rattle.replacing.proofs.parts.part_of.Reads as reads
-use Rattle.replacing.proofs.parts.part_of.Lts as lts
 
 abbrev Inv-loop : tie.InvT-loop
 Inv-loop coefs k first part₀ i₀ part i = (i ≤ 14) × (part ≡ take i (drop first coefs) ++ drop i (replicate 14 (pos 0)))

@@ -1,24 +1,17 @@
 -- `suis::finding::days_from` meets its contract. In the needs, `start` is the function's entry. Assumes nothing.
-use mathlib.Core.Path.{_≡_, sym, ap, ap₂, _∙_}
+use mathlib.Core.Path.{_≡_, sym, ap, _∙_}
 use mathlib.Core.Bool.{true}
 use mathlib.Core.List.{List}
-use Prim.Native.Nat.{ℕ, suc, _+_, _-_, _*_, _<_}
-use native.Mathlib.Omega.{arith}
+use Prim.Native.Nat.{suc, _-_, _<_}
 use borrow.Author.Needs.{needs}
 use borrow.Author.Tests.{not-true, not-false}
-use lib.IntN.{ℤ, pos, _+ℤ_, _-ℤ_}
-use lib.ListN.{length}
-use mir.Syntax.{w64}
-use mir.Val.{SFits, ofZ, toZ}
+use lib.IntN.{ℤ}
 use mir.Facts.{toZ-ofZ}
-use Rattle.whole.specs.Parts.{→≤}
-use Rattle.whole.specs.Ranges.{Within, fits-of, back}
 use Rattle.refusals.specs.Verdict.{answered-then, refused-then}
 use Rattle.series.specs.Series.{Series}
-use Rattle.inputs.specs.Inputs.{Inputs, inputs, sun, moon, dayOfMark}
-use Rattle.inputs.specs.Theorems.{mark-days-rise}
+use Rattle.inputs.specs.Inputs.{Inputs, inputs, sun, moon}
 use Rattle.months.specs.Limits.{yearInRange}
-use Rattle.months.specs.Months.{firstSolstice, secondSolstice, daysOf}
+use Rattle.months.specs.Months.{daysOf}
 use Rattle.months.specs.Answers.{daysAnswer}
 use Rattle.months.specs.theory.Kept.{year-small}
 use Rattle.turns.specs.Listed.{turnIndexOf, turnDays, turnsOf}

@@ -1,10 +1,9 @@
 -- `suis::finding::days_within` meets its contract. In the needs, `start` is the function's entry. Assumes nothing.
-use mathlib.Core.Path.{_≡_, sym, ap, _∙_}
+use mathlib.Core.Path.{sym, ap, _∙_}
 use mathlib.Core.List.{List}
-use native.Mathlib.Omega.{arith}
 use borrow.Author.Needs.{needs}
 use lib.IntN.{ℤ, pos}
-use lib.ListN.{length, getD, take}
+use lib.ListN.{getD}
 use lib.Seq.{length-take-le}
 use lib.Signed.{_≤ℤ_, _<ℤ_}
 use mir.Syntax.{w64}
@@ -13,9 +12,7 @@ use mir.Facts.{toZ-ofZ}
 use Rattle.whole.specs.Solver.{le-yes, le-no}
 use Rattle.series.specs.declared.Body.the-variants.{Moon}
 use Rattle.series.specs.Series.{Series, series}
-use Rattle.months.specs.Months.{daysOf}
 use Rattle.months.specs.Answers.{daysAnswer}
-use Rattle.turns.specs.Listed.{turnDays}
 use Rattle.suis.specs.theory.Within.{short-part, long-part, crowded-part}
 use Rattle.suis.proofs.finding.days_within.Statement.{statement}
 use Rattle.suis.proofs.finding.days_within.Tie as tie

@@ -2,7 +2,7 @@
 use mathlib.Core.Path.{_≡_, ap, _∙_}
 use native.Mathlib.Omega.{arith}
 use mir.Facts.{toZ-ofZ}
-use Prim.Native.Nat.{ℕ, _≤_, _<_}
+use Prim.Native.Nat.{ℕ, _<_}
 use Rattle.series.specs.declared.Body.the-variants.{Moon}
 use Rattle.series.specs.Series.{Series, series}
 use Rattle.months.specs.Answers.{daysAnswer}

@@ -10,9 +10,6 @@ use lib.Seq.{take-all}
 use mir.Facts.{toZ-ofZ}
 use Rattle.suis.proofs.inner.days_after.Statement.{statement}
 use Rattle.suis.proofs.inner.days_after.Tie as tie
-use Rattle.suis.proofs.inner.days_after.Reads as reads
-use Rattle.suis.proofs.inner.days_after.Lts as lts
-use Rattle.suis.proofs.finding.days_from.Reads as days-from-reads
 
 -- the rest of a list, as a part of it
 rest : (l : List ℤ) (k : ℕ) → take (length l - k) (drop k l) ≡ drop k l

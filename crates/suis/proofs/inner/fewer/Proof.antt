@@ -1,13 +1,10 @@
 -- `suis::inner::fewer` meets its contract. Assumes nothing.
-use mathlib.Core.Path.{_≡_}
 use Prim.Native.Nat.{_-_}
 use borrow.Author.Tests.{lt-ltb, le-ltb}
 use Rattle.suis.specs.Ahead.{fewer}
 use borrow.Author.Needs.{needs}
 use Rattle.suis.proofs.inner.fewer.Statement.{statement}
 use Rattle.suis.proofs.inner.fewer.Tie as tie
-use Rattle.suis.proofs.inner.fewer.Reads as reads
-use Rattle.suis.proofs.inner.fewer.Lts as lts
 
 sub-left : tie.Need-sub-left
 sub-left c = search needs

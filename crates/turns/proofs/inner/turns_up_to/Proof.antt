@@ -3,7 +3,6 @@ use mathlib.Core.Path.{_≡_}
 use Prim.Native.Nat.{_<_}
 use native.Mathlib.Omega.{arith}
 use native.Mathlib.Nat.{div-le-self}
-use lib.IntN.{ℤ}
 use lib.Signed.{_≤ℤ_}
 use borrow.Author.Needs.{needs}
 use mir.Facts.{toZ-ofZ}

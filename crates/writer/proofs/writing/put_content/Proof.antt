@@ -1,5 +1,4 @@
 -- `writer::writing::put_content` meets its contract. Assumes nothing.
-use native.Mathlib.Omega.{arith}
 use borrow.Author.Needs.{needs}
 use Rattle.content.specs.Content.{content}
 use Rattle.almanac.specs.theory.Writer.{content-placed}

@@ -7,10 +7,6 @@ use mir.Facts.{toZ-ofZ}
 use borrow.Author.Needs.{needs}
 use Rattle.build.proofs.inner.ahead.build_at.Statement.{statement}
 use Rattle.build.proofs.inner.ahead.build_at.Tie as tie
-use Rattle.build.proofs.inner.ahead.build_at.Reads as reads
-use Rattle.build.proofs.inner.ahead.build_at.Lts as lts
-use Rattle.build.proofs.inner.ahead.build_from.Reads as build-from-reads
-use Rattle.build.proofs.inner.ahead.find_ahead.Reads as find-ahead-reads
 
 abbrev Found : Type 0
 Found = tie.After-find-ahead

@@ -10,7 +10,7 @@ use mir.Facts.{toZ-ofZ}
 use Rattle.refusals.specs.Verdict.{Verdict, answered}
 use Rattle.inputs.specs.Inputs.{Inputs, inputs}
 use Rattle.months.specs.declared.Sui.{Sui}
-use Rattle.build.specs.declared.years.YearsAnswer.the-variants.{Years, Refused}
+use Rattle.build.specs.declared.years.YearsAnswer.the-variants.{Years}
 use Rattle.built.specs.Build.{suisFrom, monthWords}
 use Rattle.build.specs.theory.Put.{paperYears, monthsIn}
 use Rattle.build.specs.theory.File.{months-few, years-refused, years-found, years-stop, front-suis, sui-length, month-length, front-months, words-lawful, words-written}

@@ -1,6 +1,5 @@
 -- `build::inner::ahead::find_ahead` meets its contract. In the needs, `start` is the function's entry. Assumes nothing.
-use mathlib.Core.Path.{_≡_, sym, ap, _∙_}
-use mathlib.Core.List.{List, _++_}
+use mathlib.Core.Path.{sym, ap, _∙_}
 use Prim.Native.Nat.{ℕ, _+_, _*_, _≤_, _<_}
 use native.Mathlib.Omega.{arith}
 use native.Mathlib.Decide.{decLt}
@@ -17,7 +16,6 @@ use Rattle.turns.specs.Searched.{count-is}
 use Rattle.suis.specs.Ahead.{Ahead, zhongqiOf, solsticesBefore, fewer}
 use Rattle.suis.specs.theory.Lookups.{Fewer, fewer-says, ahead-made, ahead-any}
 use Rattle.suis.specs.theory.Zhongqi.{length-zhongqi, zhongqi-made}
-use Rattle.build.specs.theory.Walk.{Walks}
 use borrow.Author.Needs.{needs}
 use Rattle.build.proofs.inner.ahead.find_ahead.Statement.{statement}
 use Rattle.build.proofs.inner.ahead.find_ahead.Tie as tie

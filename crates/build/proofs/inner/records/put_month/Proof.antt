@@ -8,8 +8,6 @@ use Rattle.almanac.specs.theory.Sections.{three-stored}
 use borrow.Author.Needs.{needs}
 use Rattle.build.proofs.inner.records.put_month.Statement.{statement}
 use Rattle.build.proofs.inner.records.put_month.Tie as tie
-use Rattle.build.proofs.inner.records.put_month.Reads as reads
-use Rattle.build.proofs.inner.records.put_month.Lts as lts
 
 mul-handle : tie.Need-mul-handle
 mul-handle c = search needs

@@ -1,13 +1,11 @@
 -- `build::inner::records::put_months` meets its contract. The loop's invariant: the words of the first i months are put. Assumes nothing.
-use mathlib.Core.Path.{_≡_, refl, sym, ap, _∙_}
-use mathlib.Core.List.{List, [], _∷_, _++_}
+use mathlib.Core.Path.{_≡_, refl, ap, _∙_}
 use Prim.Native.Nat.{ℕ, _+_, _-_, _*_, _≤_, _<_}
 use native.Mathlib.Omega.{arith}
 use borrow.Author.Needs.{needs}
 use lib.ListN.{length, take}
 use lib.Seq.{length-take-le}
 use Rattle.whole.specs.Lists.{placed, placed-length}
-use Rattle.months.specs.declared.Month.{Month}
 use Rattle.built.specs.Build.{wordsOf}
 use Rattle.built.specs.theory.Words.{length-words-of}
 use Rattle.build.specs.theory.Stored.{nothing-put, month-put}

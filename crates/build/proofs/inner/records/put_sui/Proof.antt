@@ -8,9 +8,6 @@ use Rattle.almanac.specs.theory.Sections.{two-stored}
 use borrow.Author.Needs.{needs}
 use Rattle.build.proofs.inner.records.put_sui.Statement.{statement}
 use Rattle.build.proofs.inner.records.put_sui.Tie as tie
-use Rattle.build.proofs.inner.records.put_sui.Reads as reads
-use Rattle.build.proofs.inner.records.put_sui.Lts as lts
-use Rattle.whole.proofs.inner.signed.Reads as signed-reads
 
 mul-year : tie.Need-mul-year
 mul-year c = search needs

@@ -1,7 +1,6 @@
 -- `kept_or_made::inner::days::days_words` meets its contract. Assumes nothing.
-use mathlib.Core.Path.{_≡_, refl, sym, ap, _∙_}
+use mathlib.Core.Path.{refl, ap, _∙_}
 use mathlib.Core.List.{List, _∷_, _++_}
-use native.Mathlib.Omega.{arith}
 use lib.IntN.{ℤ, pos}
 use lib.ListN.{replicate}
 use mir.Syntax.{w64}
@@ -13,10 +12,6 @@ use Rattle.kept_or_made.specs.OldDays.{three-parts}
 use borrow.Author.Needs.{needs}
 use Rattle.kept_or_made.proofs.inner.days.days_words.Statement.{statement}
 use Rattle.kept_or_made.proofs.inner.days.days_words.Tie as tie
-use Rattle.kept_or_made.proofs.inner.days.days_words.Reads as reads
-use Rattle.kept_or_made.proofs.inner.days.days_words.Lts as lts
-use Rattle.whole.proofs.inner.put_words.Reads as put-words-reads
-use Rattle.whole.proofs.inner.signed.Reads as signed-reads
 
 signed-requires : tie.Need-signed-requires
 signed-requires c κs = search needs

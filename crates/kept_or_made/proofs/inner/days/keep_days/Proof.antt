@@ -1,6 +1,6 @@
 -- `kept_or_made::inner::days::keep_days` meets its contract. The loop's invariant: the suis of the years before year j are found, and their days stand in front.
 -- Assumes nothing.
-use mathlib.Core.Path.{_≡_, refl, sym, ap, _∙_}
+use mathlib.Core.Path.{_≡_, refl, ap, _∙_}
 use mathlib.Core.List.{List}
 use Prim.Native.Nat.{ℕ, _+_, _-_, _*_, _≤_, _<_}
 use native.Mathlib.Omega.{arith}
@@ -18,9 +18,8 @@ use Rattle.months.specs.declared.SuiDays.{SuiDays}
 use Rattle.months.specs.Answers.{daysAnswer}
 use Rattle.months.specs.theory.Kept as Kept
 use Rattle.turns.specs.Listed.{turns-few}
-use Rattle.sui.specs.Sui.{suiDays}
 use Rattle.suis.specs.Ahead.{YearIn}
-use Rattle.build.specs.theory.Walk.{Walks, Reached, reach-starts, reach-goes-on, year-in}
+use Rattle.build.specs.theory.Walk.{reach-starts, reach-goes-on, year-in}
 use Rattle.rebuilt.specs.Rebuild.{daysWords}
 use Rattle.kept_or_made.specs.OldDays.{AtOld, DaysOf, daysOfYears, days-of, days-long, moons-long, zhongqi-long, words-long, nothing-put, year-put}
 use Rattle.kept_or_made.proofs.inner.days.keep_days.Statement.{statement}

@@ -1,6 +1,6 @@
 -- `kept_or_made::inner::walk::put_years_again` meets its contract. The loop's invariant: the suis of the years before year j are found and put, and their years are listed where
 -- they are kept. Assumes nothing.
-use mathlib.Core.Path.{_≡_, refl, sym, ap, ap₂, _∙_}
+use mathlib.Core.Path.{_≡_, refl, sym, ap, _∙_}
 use mathlib.Core.Bool.{true}
 use mathlib.Core.List.{List, [], _∷_, _++_}
 use Prim.Native.Nat.{ℕ, _+_, _-_, _*_, _≤_, _<_}
@@ -8,21 +8,19 @@ use native.Mathlib.Omega.{arith}
 use native.Mathlib.Nat.{zero-add}
 use borrow.Author.Needs.{needs}
 use lib.IntN.{ℤ, pos, natAbs, _+ℤ_}
-use lib.ListN.{length, getD, take, drop, length-drop}
-use lib.Seq.{take-all, length-take-le}
+use lib.ListN.{length, getD, take, drop}
 use mir.Syntax.{w64}
-use mir.Val.{SFits, ofZ, toZ}
+use mir.Val.{ofZ, toZ}
 use mir.Facts.{toZ-ofZ}
 use Rattle.whole.specs.Evaluated.{sameWords}
 use Rattle.whole.specs.Parts.{→≤}
 use Rattle.whole.specs.Lists.{placed, placed-length}
 use Rattle.whole.specs.Ranges.{Within, fit-hyp, fits<, bounds, back}
-use Rattle.refusals.specs.Verdict.{Verdict, answered, refused, refusal, refused-then, answered-then, answer-or-refusal}
+use Rattle.refusals.specs.Verdict.{Verdict, answered, refusal, refused-then, answered-then, answer-or-refusal}
 use Rattle.refusals.specs.declared.Refusal.{Refusal}
 use Rattle.inputs.specs.Inputs.{Inputs, inputs, sun}
 use Rattle.months.specs.declared.Sui.{Sui}
 use Rattle.months.specs.declared.SuiDays.{SuiDays}
-use Rattle.months.specs.Months.{suiOf}
 use Rattle.months.specs.theory.Kept as Kept
 use Rattle.turns.specs.Listed.{turns-few}
 use Rattle.sui.specs.Sui.{suiDays, suiOfYear}
@@ -30,12 +28,12 @@ use Rattle.suis.specs.Ahead.{YearIn}
 use Rattle.suis.specs.theory.Next.{next-year}
 use Rattle.built.specs.Build.{suisFrom}
 use Rattle.build.specs.theory.Answered.{year-refused, year-found}
-use Rattle.build.specs.theory.Put.{monthsOf, sui-months}
+use Rattle.build.specs.theory.Put.{sui-months}
 use Rattle.build.specs.theory.Walk.{walk-starts, walk-goes-on, walk-ends, walk-stops, year-in, sui-room, month-room}
 use Rattle.kept_or_made.specs.declared.inner.years.Again.{Again as AgainRecord}
 use Rattle.kept_or_made.specs.declared.inner.years.AgainAnswer.the-variants.{Again, Refused}
 use Rattle.rebuilt.specs.Rebuild.{daysWords}
-use Rattle.kept_or_made.specs.Again.{paperAgain, yearAgain, yearCount, yearMonths, yearListed, listedAgain, putAnswered, Copies}
+use Rattle.kept_or_made.specs.Again.{paperAgain, yearAgain, yearCount, yearMonths, yearListed, listedAgain, putAnswered}
 use Rattle.kept_or_made.specs.theory.Putting.{nothing-put, something-put}
 use Rattle.kept_or_made.specs.theory.Walking.{Kept as Kept-by, AtAgain, fresh-count, fresh-months, again-refused, again-answered, listed-few, none-listed, year-listed, more-listed, none-counted, years-stop, years-end}
 use Rattle.kept_or_made.proofs.inner.walk.put_years_again.Statement.{statement}

@@ -1,5 +1,5 @@
 -- `kept_or_made::inner::years::copy_months` meets its contract. Assumes nothing.
-use mathlib.Core.Path.{_≡_, ap, _∙_}
+use mathlib.Core.Path.{ap, _∙_}
 use Prim.Native.Nat.{_-_, _*_, _≤_}
 use native.Mathlib.Omega.{arith}
 use lib.ListN.{length}
@@ -12,9 +12,6 @@ use Rattle.kept_or_made.specs.Again.{monthsAtPlace}
 use Rattle.whole.specs.Lists.{put-back}
 use Rattle.kept_or_made.proofs.inner.years.copy_months.Statement.{statement}
 use Rattle.kept_or_made.proofs.inner.years.copy_months.Tie as tie
-use Rattle.kept_or_made.proofs.inner.years.copy_months.Reads as reads
-use Rattle.kept_or_made.proofs.inner.years.copy_months.Lts as lts
-use Rattle.reader.proofs.inner.read_months.Reads as read-months-reads
 
 mul-read-months : tie.Need-mul-read-months
 mul-read-months c = search needs

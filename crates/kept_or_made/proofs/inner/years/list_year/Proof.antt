@@ -4,8 +4,6 @@ use Rattle.kept_or_made.specs.theory.Putting.{listed-when, not-listed-wh
 use borrow.Author.Needs.{needs}
 use Rattle.kept_or_made.proofs.inner.years.list_year.Statement.{statement}
 use Rattle.kept_or_made.proofs.inner.years.list_year.Tie as tie
-use Rattle.kept_or_made.proofs.inner.years.list_year.Reads as reads
-use Rattle.kept_or_made.proofs.inner.years.list_year.Lts as lts
 
 mul-year : tie.Need-mul-year
 mul-year c = search needs

@@ -1,16 +1,12 @@
 -- `kept_or_made::inner::years::put_again` meets its contract. In the needs, `start` is the function's entry. Assumes nothing.
-use mathlib.Core.Path.{_≡_, refl, sym, ap, _∙_}
-use mathlib.Core.Bool.{true, false}
-use mathlib.Core.List.{List}
-use Prim.Native.Nat.{ℕ, _+_, _*_, _≤_}
+use mathlib.Core.Path.{_≡_}
+use mathlib.Core.Bool.{true}
+use Prim.Native.Nat.{_*_, _≤_}
 use native.Mathlib.Omega.{arith}
-use lib.IntN.{ℤ}
-use lib.ListN.{length}
 use mir.Facts.{toZ-ofZ}
 use Rattle.refusals.specs.Verdict.{Verdict, answered}
 use Rattle.months.specs.declared.Sui.{Sui}
 use Rattle.months.specs.Months.{suiOf}
-use Rattle.months.specs.Answers.{suiAnswer}
 use Rattle.months.specs.theory.Listed.{at-most-thirteen}
 use Rattle.months.specs.theory.Suis.{sui-count}
 use Rattle.build.specs.theory.Answered.{sui-answered, sui-refused}

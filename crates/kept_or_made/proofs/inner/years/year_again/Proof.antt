@@ -1,16 +1,13 @@
 -- `kept_or_made::inner::years::year_again` meets its contract. In the needs, `start` is the function's entry. Assumes nothing.
-use mathlib.Core.Path.{_≡_, refl, sym, ap, _∙_}
-use mathlib.Core.Bool.{Bool, true}
-use mathlib.Core.List.{List}
-use Prim.Native.Nat.{ℕ, _*_, _≤_}
-use native.Mathlib.Omega.{arith}
-use lib.IntN.{ℤ}
+use mathlib.Core.Path.{_≡_, sym, ap, _∙_}
+use mathlib.Core.Bool.{true}
+use Prim.Native.Nat.{_*_}
 use mir.Facts.{toZ-ofZ}
 use Rattle.whole.specs.Evaluated.{sameWords}
-use Rattle.refusals.specs.Verdict.{Verdict, answered, refused}
+use Rattle.refusals.specs.Verdict.{Verdict, answered}
 use Rattle.inputs.specs.Inputs.{Inputs, inputs}
 use Rattle.months.specs.declared.SuiDays.{SuiDays}
-use Rattle.months.specs.Months.{suiOf, twelveOrThirteen}
+use Rattle.months.specs.Months.{twelveOrThirteen}
 use Rattle.months.specs.theory.Answered.{days-answered, days-refused}
 use Rattle.months.specs.theory.Kept.{year-small}
 use Rattle.months.specs.theory.Days.{found-twelve, found-small}
@@ -18,7 +15,7 @@ use Rattle.months.specs.theory.Listed.{at-most-thirteen}
 use Rattle.sui.specs.Sui.{newMoonDays, zhongqiDays, suiDays}
 use Rattle.sui.specs.theory.Answered.{Found, days-found, new-moons-small}
 use Rattle.rebuilt.specs.Rebuild.{daysWords}
-use Rattle.kept_or_made.specs.Again.{paperPut, againCount}
+use Rattle.kept_or_made.specs.Again.{paperPut}
 use Rattle.kept_or_made.specs.theory.Putting.{no-days, no-sui, sui-put}
 use Rattle.kept_or_made.specs.OldDays.{moons-long, zhongqi-long}
 use borrow.Author.Needs.{needs}

@@ -6,7 +6,7 @@ use lib.IntN.{ℤ, pos, _+ℤ_}
 use mir.Facts.{toZ-ofZ}
 use Rattle.whole.specs.Ranges.{back}
 use Rattle.series.specs.declared.Body.the-variants.{Sun}
-use Rattle.series.specs.Series.{Series, series}
+use Rattle.series.specs.Series.{series}
 use Rattle.inputs.specs.Inputs.{dayOfMark}
 use Rattle.suis.proofs.inner.zhongqi.zhongqi_between.Statement.{statement}
 use Rattle.suis.proofs.inner.zhongqi.zhongqi_between.Tie as tie
