@@ -57,7 +57,6 @@ enum-known-span-2 c = search needs
 judge-requires : tie.Need-judge-requires
 judge-requires c κs = search needs
 
--- /work/w0/target/rlib/refusals.rlib/interface/lang/src/lib.rt:12:30
 enum-told : tie.Need-enum-told
 enum-told c = search needs
 

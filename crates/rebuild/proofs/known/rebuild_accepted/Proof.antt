@@ -43,7 +43,6 @@ turns-of-requires-2 c κs = search needs
 begin-requires : tie.Need-begin-requires
 begin-requires c κs = search needs
 
--- /work/w0/target/rlib/refusals.rlib/interface/lang/src/lib.rt:12:30
 enum-told : tie.Need-enum-told
 enum-told c = search needs
 
