@@ -248,8 +248,8 @@ static int compare_builds(inputs *in, int64_t first, int64_t count) {
             if (got < 0) refused[-got]++;
             else answered++;
         }
-    printf("builds of 1, 2 and %ld suis from %ld to %ld on: %lu answered, refused by 8 %lu, by 9 to 11 %lu; all agree, bytes too\n", count, first - 20,
-           first + count + 20, answered, refused[8], refused[9] + refused[10] + refused[11]);
+    printf("builds of 1, 2 and %ld suis from %ld to %ld on: %lu answered, refused by 8 %lu, by 9 and 10 %lu; all agree, bytes too\n", count, first - 20,
+           first + count + 20, answered, refused[8], refused[9] + refused[10]);
     const int64_t out_of_range[][2] = {{first, 0}, {first, -1}, {first, 129}, {1699, 1}, {2501, 1}, {1699, 0}};
     for (size_t i = 0; i < sizeof out_of_range / sizeof *out_of_range; i++)
         if (compared(in, out_of_range[i][0], out_of_range[i][1], MOST_BYTES) != -8) return 1;

@@ -61,7 +61,6 @@ static int64_t numbered(int64_t year, int64_t months, const int64_t *days, const
         for (int k = 0; k < 13; k++) has |= days[i] <= zhongqi[k] && zhongqi[k] < days[i + 1];
         if (!has) without = i;
     }
-    if (months == 13 && without == 13) return -11;
     for (int64_t i = 0; i < months; i++) {
         int64_t number = (i + (i < without ? 10 : 9)) % 12 + 1;
         out[i] = (month){32 * year + 2 * number + (i == without), days[i], days[i + 1] - days[i]};

@@ -6,7 +6,7 @@
      2 a series' coefficients do not fit, or its start       or doubled, or day lists break their rule
      3 a coefficient out of range                          9 a sui has neither 12 nor 13 months
      4 a segment rises too slowly                         10 a month has not 29 or 30 days
-     5 a joint between segments outside its range         11 thirteen months, all with a zhongqi
+     5 a joint between segments outside its range         11 withdrawn: it is never returned
      6 a second, a day, a date or a segment out of range  12 lent room too small
      7 an instant before the first leap entry             13 a file, or lists to be written, break their layout, or old inputs give another file
 
@@ -90,11 +90,12 @@ int64_t hzk_judge_inputs(const int64_t *leap, size_t leap_words, int64_t sun_sta
 
 /* ---- months */
 
-/* The months of a sui by the days of new moons and of its 13 zhongqi: months, 12 or 13. Writes three words a month. 8 to 11, 12. */
+/* The months of a sui by the days of new moons and of its 13 zhongqi: months, 12 or 13. Writes three words a month. 8 to 10, 12. */
 int64_t hzk_months_of(int64_t year, const int64_t *new_moons, size_t new_moon_words, const int64_t *zhongqi, size_t zhongqi_words, int64_t *months,
                       size_t month_room, hzk_answer *answer);
 
-/* The months of the sui of a year, from leap table and series: months, 12 or 13. Writes three words a month. 1; Sun 2 to 5; Moon 2 to 5; 7 to 12. */
+/* The months of the sui of a year, from leap table and series: months, 12 or 13. Writes three words a month. 1; Sun 2 to 5; Moon 2 to 5; 7 to 10,
+   12. */
 int64_t hzk_sui(const int64_t *leap, size_t leap_words, int64_t sun_start, const int64_t *sun, size_t sun_words, int64_t moon_start, const int64_t *moon,
                 size_t moon_words, int64_t year, int64_t *months, size_t month_room, hzk_answer *answer);
 
@@ -112,7 +113,7 @@ int64_t hzk_write_file(const int64_t *leap, size_t leap_words, const int64_t *su
                        size_t file_room, hzk_answer *answer);
 
 /* Builds a file of count suis (1 to 128) from year first on: bytes; 16,140 are enough for any. 1; Sun 2 to 5; Moon 2 to 5; 7; 8 for the count; each sui in
-   turn 8 to 11; 12. */
+   turn 8 to 10; 12. */
 int64_t hzk_build(const int64_t *leap, size_t leap_words, int64_t sun_start, const int64_t *sun, size_t sun_words, int64_t moon_start, const int64_t *moon,
                   size_t moon_words, int64_t first, int64_t count, uint8_t *file, size_t file_room, hzk_answer *answer);
 

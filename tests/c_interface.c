@@ -247,8 +247,9 @@ static void series(void) {
     expect("the Moon's first mark too early", hzk_judge_inputs(LIST(10, 32), 0, LIST(SUN), 0, LIST(MOON), fresh()), REFUSED(7));
 }
 
-/* ---- months by days: document 01's three lists. 11 is never given: of thirteen months one has no zhongqi (`thirteen-have-one-without`). */
-#define NEW_MOONS 0, 30, 59, 89, 118, 148, 177, 207, 236, 266, 295, 325, 354, 384, 413
+/* ---- months by days: document 01's three lists; of thirteen months one has no zhongqi (`thirteen-months-one-without`). */
+#define TWELVE_NEW_MOONS 0, 30, 59, 89, 118, 148, 177, 207, 236, 266, 295, 325
+#define NEW_MOONS TWELVE_NEW_MOONS, 354, 384, 413
 #define ZHONGQI_LEAP 20, 50, 81, 111, 142, 172, 203, 233, 264, 294, 324, 355, 385
 #define ZHONGQI_PLAIN 2, 30, 58, 88, 119, 149, 180, 211, 242, 273, 303, 333, 363
 /* of year 2001: the months that all three have in common, and those of the third */
@@ -262,6 +263,10 @@ static void months(void) {
     holds("its months", &first_list, LIST(FIRST_TEN, 64049, 295, 30, 64050, 325, 29, 64052, 354, 30));
     expect("no leap", hzk_months_of(2001, LIST(NEW_MOONS), LIST(ZHONGQI_PLAIN), lend(&first_list), 36, fresh()), ANSWERED(12));
     holds("its months", &first_list, LIST(PLAIN_MONTHS));
+    expect("a zhongqi on each of twelve new-moon days and on the last day of the thirteenth month", hzk_months_of(2001, LIST(NEW_MOONS), LIST(TWELVE_NEW_MOONS, 383), lend(&first_list), 39, fresh()), ANSWERED(12));
+    holds("that month is the next sui's", &first_list, LIST(PLAIN_MONTHS));
+    expect("a day later", hzk_months_of(2001, LIST(NEW_MOONS), LIST(TWELVE_NEW_MOONS, 384), lend(&first_list), 39, fresh()), ANSWERED(13));
+    holds("it has none: leap 10", &first_list, LIST(PLAIN_MONTHS, 64053, 354, 30));
     expect("13 months in 38 words", hzk_months_of(2001, LIST(NEW_MOONS), LIST(ZHONGQI_LEAP), lend(&first_list), 38, fresh()), REFUSED(12));
     untouched("nothing stored", &first_list);
     expect("12 months in 35 words", hzk_months_of(2001, LIST(NEW_MOONS), LIST(ZHONGQI_PLAIN), lend(&first_list), 35, fresh()), REFUSED(12));
@@ -528,7 +533,7 @@ int main(int argc, char **argv) {
     months();
     almanac();
     real(argv[1], argv[2]);
-    for (int n = 0; n < 14; n++) check("every number but 11 was given", seen[n] || n == 11);
+    for (int n = 0; n < 14; n++) check("every number was given, but for 11, which is withdrawn", seen[n] == (n != 11));
     printf("%d checks, %d failed\n", checks, failed);
     return failed != 0;
 }

@@ -98,8 +98,7 @@ def months(year, sun, moon):
     without = [i for i, (a, b) in enumerate(spans) if not any(a <= d < b for d in zhongqi)]
     leap = None
     if len(spans) == 13:
-        if not without:
-            raise reference.Refused(11)
+        assert without, 'thirteen months, all with a zhongqi'
         leap = without[0]
     number, found = 10, []
     for i, (a, b) in enumerate(spans):

@@ -1,10 +1,10 @@
--- The numbers that an answer and a refusal carry fit a signed word, and a refusal's number is one of the rules' table, 1 to 13: what the functions that make a record
--- ask, and how it is shown of a chain of refusals. (`theory` shows it of each entry point.) Assumes nothing but what a statement says itself.
+-- The numbers that an answer and a refusal carry fit a signed word, and a refusal's number is one of the rules' table, 1 to 10, 12 or 13: what the functions that
+-- make a record ask, and how it is shown of a chain of refusals. (`theory` shows it of each entry point.) Assumes nothing but what a statement says itself.
 use mathlib.Core.Path.{_≡_, refl}
-use mathlib.Core.Bool.{Bool, true, false, _&&_}
+use mathlib.Core.Bool.{Bool, true, false, not, _&&_}
 use Prim.Native.Nat.{ℕ, _+_, _^_, _<_}
 use native.Mathlib.Omega.{arith}
-use lib.Dec.{T, ltb, leb}
+use lib.Dec.{T, eqb, ltb, leb}
 use Rattle.refusals.specs.Verdict.{Verdict, answered, refused, refuseWhen, _before_, _then_}
 use Rattle.clock.specs.declared.ShownTime.{ShownTime}
 use Rattle.almanac.specs.declared.Counts.{Counts}
@@ -15,8 +15,9 @@ abbrev pub Small : {A : Type 0} → (A → ℕ) → Verdict A → Type 0
 Small size (answered a) = size a < 2 ^ 63
 Small size (refused number segment) = segment < 2 ^ 63
 
+-- 1 to 13, but for 11, which is withdrawn
 abbrev pub inTable : ℕ → Bool
-inTable number = ltb 0 number && leb number 13
+inTable number = (ltb 0 number && leb number 13) && not (eqb number 11)
 
 abbrev pub Numbered : {A : Type 0} → Verdict A → Type 0
 Numbered (answered a) = Unit {0}

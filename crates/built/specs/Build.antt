@@ -37,7 +37,7 @@ abbrev pub contentFor : List ℤ → ℤ → List Sui → Content
 contentFor leap first suis = content leap (suiWords first suis) (monthWords suis)
 
 -- ---- by a sui for each year, whatever it is
--- "each sui in year order by 8 to 11": the first n from a year on; the first refusal wins
+-- each sui in year order by 8 to 10: the first n from a year on; the first refusal wins
 unfoldable pub suisBy : (ℤ → Verdict Sui) → ℤ → ℕ → Verdict (List Sui)
 suisBy suiOf first zero = answered []
 suisBy suiOf first (suc n) = suisBy suiOf first n then λ suis. suiOf (first +ℤ pos n) then λ sui. answered (suis ++ (sui ∷ []))
@@ -49,7 +49,7 @@ contentBy leap suiOf first n = suisBy suiOf first n then λ suis. answered (cont
 unfoldable pub bytesBy : List ℤ → (ℤ → Verdict Sui) → ℤ → ℕ → ℕ → Verdict (List ℕ)
 bytesBy leap suiOf first n room = contentBy leap suiOf first n then λ c. bytesInto c room
 
--- behind the judgement of the inputs: "after 7 the count is judged, then each sui in year order by 8 to 11, then 12"
+-- behind the judgement of the inputs: after 7 the count is judged, then each sui in year order by 8 to 10, then 12
 unfoldable pub builtBy : Verdict (Unit {0}) → List ℤ → (ℤ → Verdict Sui) → ℤ → ℤ → ℕ → Verdict (List ℕ)
 builtBy judged leap suiOf first count room =
     judged

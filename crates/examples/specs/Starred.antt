@@ -54,7 +54,7 @@ unfolding
     numberAt leapMark handle handleAt monthOf
     rule.notAfter rule.lastNotAfter rule.byFirst rule.bySecond rule.isMissing rule.moonMissing rule.monthCount rule.twelveOrThirteen rule.daysFound rule.daysOf
     rule.monthLength rule.isWithin rule.zhongqiIn rule.zhongqiOf rule.without rule.firstWithout rule.leapMonth rule.monthAt rule.numbered
-    rule.goodLength rule.badMonth rule.firstBadMonth rule.lengthsJudged rule.noneWithout rule.leapMonthJudged rule.suiOf rule.suiIn
+    rule.goodLength rule.badMonth rule.firstBadMonth rule.lengthsJudged rule.suiOf rule.suiIn
     yearInRange rising dayInRange inRange daysKept listsKept monthsOf
 starred =
     -- "That Sun series at 0 has value 0 (mark 0 not listed), at 1,350,000 value 540,000,000." (`mark-0-not-listed` below)

@@ -17,13 +17,12 @@ use refusals::Check;
 use refusals::Refusal;
 use whole::inner::subtract;
 ghost use mathlib.Core.Path.{_≡_};
-ghost use mathlib.Core.Bool.{true};
 ghost use Prim.Native.Nat.{_-_, _<_};
 ghost use lib.ListN.{length};
 ghost use Rattle.refusals.specs.Verdict.{refusal};
 ghost use Rattle.whole.specs.Ranges.{Within, All};
 ghost use Rattle.months.specs.Handles.{monthOf};
-ghost use Rattle.months.specs.Months.{notAfter, isMissing, twelveOrThirteen, daysOf, suiOf};
+ghost use Rattle.months.specs.Months.{notAfter, isMissing, twelveOrThirteen, daysOf, IsSuiDays, suiOf};
 ghost use Rattle.months.specs.Answers.{daysAnswer, suiAnswer};
 
 // No days of a sui, for this reason.
@@ -113,7 +112,7 @@ pub fn month_of(year: i64, leap: usize, place: usize, first: i64, next: i64) -> 
 // The sui of these days.
 pub fn sui_of(year: i64, days: SuiDays) -> SuiAnswer
     requires { ⌜ Within 2500 year ⌝ }
-    requires { ⌜ twelveOrThirteen (days .months) ≡ true ⌝ }
+    requires { ⌜ IsSuiDays days ⌝ }
     requires { ⌜ All 1000000 (days .moons) ⌝ }
     ensures { λ r. ⌜ r ≡ suiAnswer (suiOf year days) ⌝ }
 {
@@ -121,13 +120,9 @@ pub fn sui_of(year: i64, days: SuiDays) -> SuiAnswer
     if first_bad_month(days) < months {
         return no_sui(refusals::MONTH_LENGTH);
     }
-    let leap = leap_month(days);
-    if leap == 13 {
-        return no_sui(refusals::NO_LEAP_MONTH);
-    }
     SuiAnswer {
         check: Check::Accepted,
-        sui: numbered(year, days, leap),
+        sui: numbered(year, days, leap_month(days)),
     }
 }
 

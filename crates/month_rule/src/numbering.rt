@@ -13,7 +13,7 @@ ghost use Prim.Native.Nat.{_+_, _<_, _≤_};
 ghost use Rattle.whole.specs.Ranges.{Within, All};
 ghost use Rattle.whole.specs.Counted.{one};
 ghost use Rattle.months.specs.Handles.{ordinal, numberAt, leapMark, handle, monthOf};
-ghost use Rattle.months.specs.Months.{isWithin, zhongqiIn, without, firstWithout, leapMonth, goodLength, badMonth, firstBadMonth, monthFirst, numbered};
+ghost use Rattle.months.specs.Months.{IsSuiDays, isWithin, zhongqiIn, without, firstWithout, leapMonth, goodLength, badMonth, firstBadMonth, monthFirst, numbered};
 
 // The number of a place where no leap month came before.
 pub fn ordinal(place: usize) -> usize
@@ -90,17 +90,14 @@ pub fn without(days: SuiDays, place: usize) -> bool
     zhongqi_in(first, next, days.zhongqi) == 0
 }
 
-// The place of the first month without a zhongqi; the number of months where each has one.
+// The place of the first month without a zhongqi, of thirteen: one has none (`thirteen-months-one-without`), so the search asks for no end.
 pub fn first_without(days: SuiDays) -> usize
-    requires { ⌜ days .months ≤ 13 ⌝ }
+    requires { ⌜ IsSuiDays days ⌝ }
+    requires { ⌜ days .months ≡ 13 ⌝ }
     ensures { λ r. ⌜ r ≡ firstWithout days ⌝ }
 {
-    let months = days.months;
     let mut i: usize = 0;
-    while i < months {
-        if without(days, i) {
-            return i;
-        }
+    while !without(days, i) {
         i += 1;
     }
     i
@@ -108,7 +105,7 @@ pub fn first_without(days: SuiDays) -> usize
 
 // The place of the leap month; the number of months where there is none.
 pub fn leap_month(days: SuiDays) -> usize
-    requires { ⌜ days .months ≤ 13 ⌝ }
+    requires { ⌜ IsSuiDays days ⌝ }
     ensures { λ r. ⌜ r ≡ leapMonth days ⌝ }
 {
     let months = days.months;

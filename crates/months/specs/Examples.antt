@@ -6,6 +6,7 @@ use Prim.Native.Nat.{ℕ, zero, suc, _+_, _-_}
 use lib.Dec.{T, eqb}
 use lib.IntN.{ℤ, pos, negsuc, _+ℤ_, _-ℤ_, _*ℤ_}
 use lib.ListN.{length, take, drop, replicate}
+use lib.Signed.{ltZ}
 use Rattle.whole.specs.Counted.{countOf}
 use Rattle.whole.specs.Evaluated.{same, all}
 use Rattle.whole.specs.Found.{firstFrom, firstBelow}
@@ -17,7 +18,7 @@ use Rattle.months.specs.declared.Sui.{Sui}
 use Rattle.months.specs.declared.SuiAnswer.{SuiAnswer}
 use Rattle.months.specs.Answers.{suiAnswer, paperSui}
 use Rattle.months.specs.Handles.{numberAt, leapMark, handle, handleAt, monthOf}
-use Rattle.months.specs.Months.{notAfter, lastNotAfter, byFirst, bySecond, isMissing, moonMissing, monthCount, twelveOrThirteen, daysFound, daysOf, monthLength, isWithin, zhongqiIn, zhongqiOf, without, firstWithout, leapMonth, monthAt, numbered, goodLength, badMonth, firstBadMonth, lengthsJudged, noneWithout, leapMonthJudged, suiOf, suiIn}
+use Rattle.months.specs.Months.{notAfter, lastNotAfter, byFirst, bySecond, isMissing, moonMissing, monthCount, twelveOrThirteen, daysFound, daysOf, monthFirst, secondSolstice, monthLength, isWithin, zhongqiIn, zhongqiOf, without, firstWithout, leapMonth, monthAt, numbered, goodLength, badMonth, firstBadMonth, lengthsJudged, suiOf, suiIn}
 use Rattle.months.specs.Limits.{yearInRange, rising, dayInRange, inRange, daysKept, listsKept, monthsOf}
 
 -- ---- how the examples are written
@@ -88,6 +89,9 @@ leapNine = tenths ++ (m 18 295 30 ∷ m 19 325 29 ∷ m 20 354 30 ∷ [])
 abbrev pub twelve : List Month
 twelve = tenths ++ (m 18 295 30 ∷ m 20 325 29 ∷ [])
 
+abbrev leapTen : List Month
+leapTen = twelve ++ (m 21 354 30 ∷ [])
+
 -- the same months of another year: 32 to a year in their handles
 abbrev inYear : ℕ → List Month → List Month
 inYear year [] = []
@@ -103,26 +107,32 @@ thirties n = days (every 30 0 n)
 abbrev apart : List ℕ
 apart = 2 ∷ 32 ∷ 63 ∷ 93 ∷ 124 ∷ 154 ∷ 185 ∷ 215 ∷ 246 ∷ 276 ∷ 307 ∷ 337 ∷ 368 ∷ []
 
--- the days of a sui of 13 months, each with a zhongqi: no two lists hold such days
-abbrev allWith : List ℕ → SuiDays
-allWith starts = record { months = 13; moons = days (take 14 starts); zhongqi = days (take 13 starts) }
+-- 13 months, each with a zhongqi
+abbrev allWith : SuiDays
+allWith = record { months = 13; moons = days (take 14 moons); zhongqi = days (take 13 moons) }
 
 abbrev pub rule : List ℕ → List ℕ → Verdict Sui
 rule moons zhongqi = monthsOf (pos 2000) (days moons) (days zhongqi)
 
 unfoldable pub examples : List Bool
-unfolding countOf firstFrom firstBelow numberAt leapMark handle handleAt monthOf notAfter lastNotAfter byFirst bySecond isMissing moonMissing monthCount twelveOrThirteen daysFound daysOf monthLength isWithin zhongqiIn zhongqiOf without firstWithout leapMonth monthAt numbered goodLength badMonth firstBadMonth lengthsJudged noneWithout leapMonthJudged suiOf suiIn yearInRange rising dayInRange inRange daysKept listsKept monthsOf
+unfolding countOf firstFrom firstBelow numberAt leapMark handle handleAt monthOf notAfter lastNotAfter byFirst bySecond isMissing moonMissing monthCount twelveOrThirteen daysFound daysOf monthLength isWithin zhongqiIn zhongqiOf without firstWithout leapMonth monthAt numbered goodLength badMonth firstBadMonth lengthsJudged suiOf suiIn yearInRange rising dayInRange inRange daysKept listsKept monthsOf
 examples =
     -- 12 months, no leap, though 30 to 58 has no zhongqi
     isSui (rule moons (0 ∷ 29 ∷ every 30 60 11)) twelve
     -- new moons on the two solstice days
     ∷ isSui (rule moons (with 0 20 (with 384 385 zhongqi))) leapNine
     -- a zhongqi on the last day of the month at 325, and on the first day of the next
-    ∷ isSui (rule moons (with 353 355 zhongqi)) (tenths ++ (m 18 295 30 ∷ m 20 325 29 ∷ m 21 354 30 ∷ []))
+    ∷ isSui (rule moons (with 353 355 zhongqi)) leapTen
     ∷ isSui (rule moons (with 354 355 zhongqi)) leapNine
     -- month 11 alone has two zhongqi: of two months without one the first is leap
     ∷ isSui (rule moons (0 ∷ 29 ∷ 59 ∷ every 30 90 9 ++ (385 ∷ [])))
     (m 22 0 30 ∷ m 23 30 29 ∷ m 24 59 30 ∷ m 2 89 29 ∷ m 4 118 30 ∷ m 6 148 29 ∷ m 8 177 30 ∷ m 10 207 29 ∷ m 12 236 30 ∷ m 14 266 29 ∷ m 16 295 30 ∷ m 18 325 29 ∷ m 20 354 30 ∷ [])
+    -- thirteen months cannot have a zhongqi each: a second solstice on the last day of the thirteenth leaves that month to the next sui, a day later it lies
+    -- behind it; days that have are no sui's, for the second solstice lies before their end
+    ∷ isSui (rule moons (take 12 moons ++ (383 ∷ []))) twelve
+    ∷ isSui (rule moons (take 12 moons ++ (384 ∷ []))) leapTen
+    ∷ eqb (firstWithout allWith) 13
+    ∷ ltZ (secondSolstice (allWith .zhongqi)) (monthFirst allWith 13)
     -- both solstices in one month
     ∷ isRefused (rule moons (every 1 1 13)) 9
     -- 11, 12, 13 and 14 months
@@ -166,12 +176,10 @@ examples =
     ∷ isRefused (rule (with 30 59 moons) zhongqi) 8
     ∷ isRefused (rule moons (with 50 81 zhongqi)) 8
     ∷ isRefused (rule moons (with 51 50 (with 50 81 zhongqi))) 8
-    -- 8 before 9 (no month, and none behind the second solstice; 11 months in the year 1699), 9 before 10, 10 before 11
+    -- 8 before 9 (no month, and none behind the second solstice; 11 months in the year 1699), 9 before 10
     ∷ isRefused (rule (0 ∷ []) (every 1 1 13)) 8
     ∷ isRefused (monthsOf (pos 1699) (days moons) (days (every 26 20 13))) 8
     ∷ isRefused (rule (onFrom 0 (30 ∷ 28 ∷ drop 2 lengths)) (every 26 20 13)) 9
-    ∷ isRefused (suiOf (pos 2000) (allWith (onFrom 0 (30 ∷ 28 ∷ drop 2 lengths)))) 10
-    ∷ isRefused (suiOf (pos 2000) (allWith moons)) 11
     -- what a refusal holds
     ∷ isRefusal (suiAnswer (rule [] zhongqi)) 8
     ∷ isRefusal (suiAnswer (rule moons (every 1 1 13))) 9

@@ -1,12 +1,13 @@
 -- The month rule over days (document 01, "Months of a sui"), for any list of new-moon days and any list of zhongqi days. Assumes nothing: these are
 -- definitions.
-use mathlib.Core.Bool.{Bool, cond, not, _&&_, _||_}
+use mathlib.Core.Path.{_≡_}
+use mathlib.Core.Bool.{Bool, true, cond, not, _&&_, _||_}
 use mathlib.Core.List.{List, _++_}
-use Prim.Native.Nat.{ℕ, _+_, _-_}
+use Prim.Native.Nat.{ℕ, _+_, _-_, _<_}
 use lib.Dec.{eqb, leb, ltb}
 use lib.IntN.{ℤ, pos, _-ℤ_}
 use lib.ListN.{length, getD, take, drop, replicate}
-use lib.Signed.{leZ, ltZ}
+use lib.Signed.{leZ, ltZ, _≤ℤ_}
 use Rattle.whole.specs.Counted.{countOf}
 use Rattle.whole.specs.Found.{firstBelow}
 use Rattle.whole.specs.Tabulated.{tabulate}
@@ -74,6 +75,14 @@ daysOf moons zhongqi =
 abbrev pub monthFirst : SuiDays → ℕ → ℤ
 monthFirst days place = getD (days .moons) place (pos 0)
 
+-- what the days of a sui keep: 12 or 13 months, none before the one before it; thirteen zhongqi, the last of which, the second solstice, is not before the day
+-- where the sui ends
+pub record IsSuiDays (days : SuiDays) : Type 0 where
+  pub count : twelveOrThirteen (days .months) ≡ true
+  pub in-order : (place : ℕ) → place < days .months → monthFirst days place ≤ℤ monthFirst days (place + 1)
+  pub thirteen : length (days .zhongqi) ≡ 13
+  pub end-by-second : monthFirst days (days .months) ≤ℤ secondSolstice (days .zhongqi)
+
 unfoldable pub monthLength : SuiDays → ℕ → ℤ
 monthLength days place = monthFirst days (place + 1) -ℤ monthFirst days place
 
@@ -91,7 +100,8 @@ zhongqiOf days place = zhongqiIn (monthFirst days place) (monthFirst days (place
 unfoldable pub without : SuiDays → ℕ → Bool
 without days place = eqb (zhongqiOf days place) 0
 
--- the place of the first month without a zhongqi; the number of months where each has one
+-- the place of the first month without a zhongqi. One of thirteen months has none: `thirteen-months-one-without`. Of twelve each may have one; the number of
+-- months then
 unfoldable pub firstWithout : SuiDays → ℕ
 firstWithout days = firstBelow (without days) (days .months)
 
@@ -118,15 +128,9 @@ firstBadMonth days = firstBelow (badMonth days) (days .months)
 unfoldable pub lengthsJudged : SuiDays → Verdict (Unit {0})
 lengthsJudged days = refuseWhen (ltb (firstBadMonth days) (days .months)) 10
 
--- 11 for thirteen months, all with a zhongqi
-unfoldable pub noneWithout : SuiDays → Bool
-noneWithout days = eqb (days .months) 13 && eqb (firstWithout days) (days .months)
-
-unfoldable pub leapMonthJudged : SuiDays → Verdict (Unit {0})
-leapMonthJudged days = refuseWhen (noneWithout days) 11
-
+-- "thirteen months, all with a zhongqi", document 01's 11, is withdrawn: there are none such
 unfoldable pub suiOf : ℤ → SuiDays → Verdict Sui
-suiOf year days = lengthsJudged days before leapMonthJudged days before answered (numbered year days)
+suiOf year days = lengthsJudged days before answered (numbered year days)
 
 -- ---- the month rule
 unfoldable pub suiIn : ℤ → List ℤ → List ℤ → Verdict Sui

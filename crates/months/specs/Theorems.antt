@@ -17,13 +17,13 @@ use Rattle.months.specs.declared.SuiDays.{SuiDays}
 use Rattle.months.specs.declared.Sui.{Sui}
 use Rattle.months.specs.declared.SuiAnswer.{SuiAnswer}
 use Rattle.months.specs.Handles.{numberAt, leapMark, handle, handleAt}
-use Rattle.months.specs.Months.{notAfter, lastNotAfter, firstSolstice, secondSolstice, byFirst, bySecond, monthCount, daysOf, monthFirst, zhongqiIn, zhongqiOf, without, leapMonth, noneWithout, suiIn}
+use Rattle.months.specs.Months.{notAfter, lastNotAfter, firstSolstice, secondSolstice, byFirst, bySecond, monthCount, daysOf, monthFirst, IsSuiDays, zhongqiIn, zhongqiOf, without, firstWithout, leapMonth, suiIn}
 use Rattle.months.specs.Limits.{rising, listsKept, monthsOf}
 use Rattle.months.specs.Answers.{suiAnswer, paperSui}
 use Rattle.months.specs.theory.Numbering.{before-leap, not-at-leap, number-small, mark-small, places-differ}
 use Rattle.months.specs.theory.Listed.{at-most-thirteen, zhongqiIn-turn, within-here}
 use Rattle.months.specs.theory.Kept.{kept}
-use Rattle.months.specs.theory.Rising.{first-are-by, later-are-after, last-is-by, none-later}
+use Rattle.months.specs.theory.Rising.{first-are-by, later-are-after, last-is-by, in-order, none-later}
 use Rattle.months.specs.theory.Suis.{IsSui, month, sui-count, handle-is, first-is, end-is, days-of-sui}
 use Rattle.months.specs.theory.Days.{found-first, found-months, found-listed, found-count, found-twelve, found-zhongqi}
 use Rattle.months.specs.theory.Leap.{leap-by-twelve, leap-not-first}
@@ -79,15 +79,34 @@ month-11-has-a-zhongqi moons zhongqi {days} rises long found =
     let here = within-here (monthFirst days 0) (monthFirst days (0 + 1)) z (no-lt {a = z} {b = monthFirst days 0} first) (yes-lt {a = z} {b = monthFirst days (0 + 1)} second) in
     ne-eqb (zhongqiIn (monthFirst days 0) (monthFirst days (0 + 1)) (days .zhongqi)) 0 (λ none. omega (arith, here, zhongqiIn-turn (monthFirst days 0) (monthFirst days (0 + 1)) zhongqi 0 (omega arith), ap (zhongqiIn (monthFirst days 0) (monthFirst days (0 + 1))) (found-zhongqi moons zhongqi found)))
 
--- of thirteen months one has no zhongqi, so 11 is never given
-pub thirteen-have-one-without : (moons zhongqi : List ℤ) {days : SuiDays} → rising moons ≡ true → length zhongqi ≡ 13 → daysOf moons zhongqi ≡ answered days → noneWithout days ≡ false
-thirteen-have-one-without moons zhongqi {days} rises long found = one-without moons zhongqi rises long days found
+-- what 8 and 9 let pass are the days of a sui: 12 or 13 months in order, thirteen zhongqi, and the second solstice not before the day where the sui ends ..
+pub found-are-sui-days : (moons zhongqi : List ℤ) {days : SuiDays} → rising moons ≡ true → length zhongqi ≡ 13 → daysOf moons zhongqi ≡ answered days → IsSuiDays days
+unfolding monthCount bySecond lastNotAfter
+found-are-sui-days moons zhongqi {days} rises long found =
+    let from = byFirst moons zhongqi - 1 in
+    let listed = found-listed moons zhongqi found in
+    let count = found-months moons zhongqi found in
+    let some = at-most-thirteen (monthCount moons zhongqi) (found-count moons zhongqi found) in
+    let last : from + days .months ≡ bySecond moons zhongqi - 1 = omega arith in
+    let same = found-zhongqi moons zhongqi found in
+    record {
+      count = found-twelve moons zhongqi found;
+      in-order = λ place h. let next : from + (place + 1) ≡ from + place + 1 = omega arith in
+          rw (found-first moons zhongqi found place (omega arith), found-first moons zhongqi found (place + 1) (omega arith), next) (in-order moons rises (from + place) 1 (omega arith));
+      thirteen = rw (← same) long;
+      end-by-second = rw (← same, found-first moons zhongqi found (days .months) (omega arith), last) (last-is-by (secondSolstice zhongqi) moons rises (omega arith));
+    }
+
+-- .. and thirteen months between the two solstice months always include one without a zhongqi: at most twelve of the thirteen zhongqi lie in them. So no refusal
+-- stands for a leap month that is missing: document 01's 11 is withdrawn
+pub thirteen-months-one-without : (days : SuiDays) → IsSuiDays days → days .months ≡ 13 → firstWithout days < 13
+thirteen-months-one-without days d thirteen = one-without days d thirteen
 
 -- the leap month is never the first, and it stands among the first thirteen; where there is none, `leapMonth` is 12
 pub leap-month-stands : (moons zhongqi : List ℤ) {days : SuiDays} → rising moons ≡ true → length zhongqi ≡ 13 → daysOf moons zhongqi ≡ answered days → (0 < leapMonth days) × (leapMonth days ≤ 12)
 leap-month-stands moons zhongqi {days} rises long found =
     let few = at-most-thirteen (days .months) (found-twelve moons zhongqi found) in
-    (leap-not-first days (few .1) (omega arith) (month-11-has-a-zhongqi moons zhongqi rises long found), leap-by-twelve days (few .1) (thirteen-have-one-without moons zhongqi rises long found))
+    (leap-not-first days (few .1) (omega arith) (month-11-has-a-zhongqi moons zhongqi rises long found), leap-by-twelve days (few .1) (thirteen-months-one-without days (found-are-sui-days moons zhongqi rises long found)))
 
 -- the first month of a sui is month 11, and not leap
 pub first-month-is-11 : {year : ℤ} {moons zhongqi : List ℤ} {sui : Sui} → IsSui year moons zhongqi sui → month sui 0 .handle ≡ handle year 11 0

@@ -20,7 +20,7 @@ use Rattle.clock.specs.Leap.{firstEntry, nextEntry, goodEntry, wholePairs, leap
 use Rattle.months.specs.declared.Sui.{Sui}
 use Rattle.months.specs.declared.SuiDays.{SuiDays}
 use Rattle.months.specs.Handles.{numberAt, leapMark, handle, handleAt, monthOf}
-use Rattle.months.specs.Months.{monthLength, isWithin, zhongqiIn, zhongqiOf, without, firstWithout, leapMonth, monthAt, numbered, goodLength, badMonth, firstBadMonth, lengthsJudged, noneWithout, leapMonthJudged, suiOf}
+use Rattle.months.specs.Months.{monthLength, isWithin, zhongqiIn, zhongqiOf, without, firstWithout, leapMonth, monthAt, numbered, goodLength, badMonth, firstBadMonth, lengthsJudged, suiOf}
 use Rattle.content.specs.Content.{content, monthsBefore, followsYear, goodSui, leapsBefore, goodHandle, goodStart, goodDays, goodMonth, goodMonths, goodSuiMonths, wholeSuis, lawful}
 use Rattle.almanac.specs.Fields.{times, numbersIn, bytesFor}
 use Rattle.almanac.specs.Layout.{endAt, bytesOf, countsOf, contentAt, contentOf, fileOf}
@@ -111,7 +111,7 @@ abbrev given : Verdict Years
 given = answered (record { first = pos 2001; count = 3 })
 
 unfoldable pub examples : List Bool
-unfolding every countOf floorMod firstFrom firstBelow hasDate firstEntry nextEntry goodEntry wholePairs leapLawful numberAt leapMark handle handleAt monthOf monthLength isWithin zhongqiIn zhongqiOf without firstWithout leapMonth monthAt numbered goodLength badMonth firstBadMonth lengthsJudged noneWithout leapMonthJudged suiOf monthsBefore followsYear goodSui leapsBefore goodHandle goodStart goodDays goodMonth goodMonths goodSuiMonths wholeSuis lawful times numbersIn bytesFor bytesOf countsOf contentAt contentOf fileOf wordsOf givenBy daysWords sameDays keptBy newFileBy rebuiltBy taken
+unfolding every countOf floorMod firstFrom firstBelow hasDate firstEntry nextEntry goodEntry wholePairs leapLawful numberAt leapMark handle handleAt monthOf monthLength isWithin zhongqiIn zhongqiOf without firstWithout leapMonth monthAt numbered goodLength badMonth firstBadMonth lengthsJudged suiOf monthsBefore followsYear goodSui leapsBefore goodHandle goodStart goodDays goodMonth goodMonths goodSuiMonths wholeSuis lawful times numbersIn bytesFor bytesOf countsOf contentAt contentOf fileOf wordsOf givenBy daysWords sameDays keptBy newFileBy rebuiltBy taken
 examples =
     -- the old file: what the build gives for the years that stand in it
     isYears (givenBy (gives (one (pos 29)) (pos 2001) (pos 1)) (one (pos 29))) (pos 2001) 1

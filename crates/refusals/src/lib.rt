@@ -54,11 +54,7 @@ pub const MONTH_LENGTH: Refusal = Refusal {
     segment: 0,
 };
 
-// 11: thirteen months, all with a zhongqi.
-pub const NO_LEAP_MONTH: Refusal = Refusal {
-    number: 11,
-    segment: 0,
-};
+// 11 is withdrawn: of thirteen months one has no zhongqi (`thirteen-months-one-without` of `months`). The others keep their numbers.
 
 // 12: lent room too small.
 pub const ROOM: Refusal = Refusal {

@@ -27,7 +27,7 @@ use Rattle.inputs.specs.Inputs.{inputs, inputsJudged}
 use Rattle.months.specs.declared.SuiDays.{SuiDays}
 use Rattle.months.specs.declared.Sui.{Sui}
 use Rattle.months.specs.Handles.{numberAt, leapMark, handle, handleAt, monthOf, noMonth}
-use Rattle.months.specs.Months.{notAfter, byFirst, bySecond, isMissing, moonMissing, monthCount, twelveOrThirteen, daysFound, daysOf, monthLength, isWithin, zhongqiIn, zhongqiOf, without, firstWithout, leapMonth, monthAt, numbered, goodLength, badMonth, firstBadMonth, lengthsJudged, noneWithout, leapMonthJudged, suiOf}
+use Rattle.months.specs.Months.{notAfter, byFirst, bySecond, isMissing, moonMissing, monthCount, twelveOrThirteen, daysFound, daysOf, monthLength, isWithin, zhongqiIn, zhongqiOf, without, firstWithout, leapMonth, monthAt, numbered, goodLength, badMonth, firstBadMonth, lengthsJudged, suiOf}
 use Rattle.months.specs.Limits.{yearInRange}
 use Rattle.whole.specs.Selected.{select}
 use Rattle.sui.specs.Sui.{isSolstice, isZhongqi, isNewMoon, oneSolstice, newMoonDaysOf, solsticesOf, zhongqiDaysOf, daysByMarks, suiDays, suiFor}
@@ -142,7 +142,7 @@ unfolding
     isSolstice isZhongqi isNewMoon oneSolstice newMoonDaysOf solsticesOf zhongqiDaysOf daysByMarks suiDays suiFor select
     daysOf daysFound notAfter byFirst bySecond isMissing moonMissing monthCount twelveOrThirteen countOf yearInRange
     monthLength isWithin zhongqiIn zhongqiOf without firstWithout firstFrom firstBelow leapMonth numberAt leapMark handle handleAt monthOf monthAt numbered
-    goodLength badMonth firstBadMonth lengthsJudged noneWithout leapMonthJudged suiOf
+    goodLength badMonth firstBadMonth lengthsJudged suiOf
     dayIn dayOfMilli milliIn reading localMilli tai holdsFrom holds entryUsed lastBelow
     leapYearsTo newYear yearOrNext yearOf floorDiv floorMod
     inputsJudged leapJudged leapLawful wholePairs firstEntry nextEntry goodEntry every seriesJudged firstBad value slope sum P

@@ -78,10 +78,10 @@ module _ (i : Inputs) (zone : ℤ) where
   unfoldable pub suiDays : ℤ → Verdict SuiDays
   suiDays = daysByMarks (i .leap) zone (listedMarks (sun i)) (listedMarks (moon i))
 
-  -- the sui: 8 to 11
+  -- the sui: 8 to 10
   abbrev pub suiOfYear : ℤ → Verdict Sui
   suiOfYear year = suiDays year then suiOf year
 
--- the whole: 1; Sun 2 to 5; Moon 2 to 5; 7; 8; 9; 10; 11
+-- the whole: 1; Sun 2 to 5; Moon 2 to 5; 7; 8; 9; 10
 unfoldable pub suiFor : Inputs → ℤ → ℤ → Verdict Sui
 suiFor i zone year = inputsJudged i before suiOfYear i zone year

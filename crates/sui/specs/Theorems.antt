@@ -2,7 +2,7 @@
 -- mark; new-moon days rise; and the sui is what the month rule says of all listed new moons and those zhongqi, so that every theorem of `months` on a sui holds of
 -- it; one result. Assumes nothing.
 use mathlib.Core.Path.{_≡_, sym, ap, ap₂, _∙_}
-use mathlib.Core.Bool.{true, false}
+use mathlib.Core.Bool.{true}
 use Prim.Native.Nat.{ℕ, suc, _+_, _*_, _<_}
 use native.Mathlib.Omega.{arith}
 use lib.IntN.{ℤ, pos, _+ℤ_, _-ℤ_}
@@ -16,10 +16,10 @@ use Rattle.inputs.specs.Theorems.{known}
 use Rattle.months.specs.declared.SuiDays.{SuiDays}
 use Rattle.months.specs.declared.Sui.{Sui}
 use Rattle.months.specs.declared.SuiAnswer.{SuiAnswer}
-use Rattle.months.specs.Months.{noneWithout, suiOf, suiIn}
+use Rattle.months.specs.Months.{IsSuiDays, suiOf, suiIn}
 use Rattle.months.specs.Limits.{rising}
 use Rattle.months.specs.Answers.{suiAnswer}
-use Rattle.months.specs.Theorems.{Meet, months-meet, thirteen-have-one-without}
+use Rattle.months.specs.Theorems.{Meet, months-meet, found-are-sui-days}
 use Rattle.months.specs.theory.Suis.{IsSui}
 use Rattle.sui.specs.Sui.{newMoonDays, solsticesIn, zhongqiDays, oneSolstice, suiDays, suiFor}
 use Rattle.sui.specs.theory.Answered.{days-found, inputs-answered}
@@ -89,11 +89,11 @@ answered-is-sui i zone year {sui} e =
 pub months-of-a-sui-meet : (i : Inputs) (zone year : ℤ) {sui : Sui} (s : IsSuiOf i zone year sui) → Meet (newMoonDays i zone) (zhongqiDays i zone (s .first) (s .last)) sui
 months-of-a-sui-meet i zone year s = months-meet year (newMoonDays i zone) (zhongqiDays i zone (s .first) (s .last)) (s .is-sui .rule)
 
--- of thirteen months one has no zhongqi: accepted inputs never give 11
-pub sui-has-one-without : (i : Inputs) (zone year : ℤ) → Known i → {days : SuiDays} → suiDays i zone year ≡ answered days → noneWithout days ≡ false
-sui-has-one-without i zone year k e =
+-- the days that are found are those of a sui, so of thirteen months one has no zhongqi (`thirteen-months-one-without` of `months`)
+pub sui-days-of-accepted : (i : Inputs) (zone year : ℤ) → Known i → {days : SuiDays} → suiDays i zone year ≡ answered days → IsSuiDays days
+sui-days-of-accepted i zone year k e =
     let found = days-found i zone year e in
-    thirteen-have-one-without (newMoonDays i zone) (zhongqiDays i zone (found .first) (found .last)) (new-moon-days-rise i zone k) (thirteen-zhongqi i zone k year (found .is-first) (found .is-last)) (found .by-rule)
+    found-are-sui-days (newMoonDays i zone) (zhongqiDays i zone (found .first) (found .last)) (new-moon-days-rise i zone k) (thirteen-zhongqi i zone k year (found .is-first) (found .is-last)) (found .by-rule)
 
 -- ---- one result: any two answers that `sui` may give are the same, in every field
 pub sui-one-result : (i : Inputs) (zone year : ℤ) (a b : SuiAnswer) → a ≡ suiAnswer (suiFor i zone year) → b ≡ suiAnswer (suiFor i zone year) → a ≡ b

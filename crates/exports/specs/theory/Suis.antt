@@ -22,7 +22,7 @@ use Rattle.inputs.specs.Inputs.{Inputs, sun, moon}
 use Rattle.months.specs.declared.SuiDays.{SuiDays}
 use Rattle.months.specs.declared.Sui.{Sui}
 use Rattle.months.specs.declared.SuiAnswer.{SuiAnswer}
-use Rattle.months.specs.Months.{moonMissing, twelveOrThirteen, monthCount, firstBadMonth, lengthsJudged, noneWithout, leapMonthJudged, numbered, daysOf, suiOf, suiIn}
+use Rattle.months.specs.Months.{moonMissing, twelveOrThirteen, monthCount, firstBadMonth, lengthsJudged, numbered, daysOf, suiOf, suiIn}
 use Rattle.months.specs.Limits.{yearInRange, listsKept, monthsOf}
 use Rattle.months.specs.Answers.{suiAnswer, paperSui}
 use Rattle.months.specs.Theorems.{accepted-is-sui}
@@ -55,14 +55,14 @@ has-all {year} {moons} {zhongqi} {sui} s =
     let few = at-most-thirteen (days .months) (found-twelve moons zhongqi (made .1)) in
     rw (← sui-is year days (made .2)) (record { few = few .1; has-months = simp (length-append, length-tabulate) (omega arith) })
 
--- ---- refusals by 8 to 11 name no segment
+-- ---- refusals by 8 to 10 name no segment
 days-fit : (moons zhongqi : List ℤ) → Fits none (daysOf moons zhongqi)
 unfolding daysOf
 days-fit moons zhongqi = test (moonMissing moons zhongqi) 8 tt and test (not (twelveOrThirteen (monthCount moons zhongqi))) 9 tt and answer (omega arith)
 
 sui-of-fits : (year : ℤ) (days : SuiDays) → Fits none (suiOf year days)
-unfolding suiOf lengthsJudged leapMonthJudged
-sui-of-fits year days = test (ltb (firstBadMonth days) (days .months)) 10 tt and test (noneWithout days) 11 tt and answer (omega arith)
+unfolding suiOf lengthsJudged
+sui-of-fits year days = test (ltb (firstBadMonth days) (days .months)) 10 tt and answer (omega arith)
 
 months-fit : (year : ℤ) (moons zhongqi : List ℤ) → Fits none (monthsOf year moons zhongqi)
 unfolding monthsOf suiIn

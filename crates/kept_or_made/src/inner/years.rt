@@ -23,7 +23,7 @@ ghost use Rattle.whole.specs.Ranges.{Within, All};
 ghost use Rattle.refusals.specs.Verdict.{answered};
 ghost use Rattle.inputs.specs.Inputs.{inputs};
 ghost use Rattle.months.specs.declared.SuiDays.{SuiDays};
-ghost use Rattle.months.specs.Months.{suiOf, twelveOrThirteen};
+ghost use Rattle.months.specs.Months.{IsSuiDays, suiOf};
 ghost use Rattle.sui.specs.Sui.{suiDays};
 ghost use Rattle.suis.specs.Ahead.{YearIn};
 ghost use Rattle.rebuilt.specs.Rebuild.{daysWords};
@@ -68,7 +68,7 @@ fn put_again(
     months: &mut [i64],
 ) -> PutAnswer
     requires { ⌜ Within 2500 year ⌝ }
-    requires { ⌜ twelveOrThirteen (days .months) ≡ true ⌝ }
+    requires { ⌜ IsSuiDays days ⌝ }
     requires { ⌜ All 1000000 (days .moons) ⌝ }
     requires { ⌜ (same ≡ true → at + 9 * days .months ≤ length (now old)) ⌝ }
     requires { ⌜ j < 128 ⌝ }

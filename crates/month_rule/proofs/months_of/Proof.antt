@@ -10,8 +10,9 @@ use Rattle.refusals.specs.Verdict.{answered}
 use Rattle.months.specs.Months.{daysOf}
 use Rattle.months.specs.Limits.{listsKept}
 use Rattle.months.specs.Answers.{suiAnswer}
+use Rattle.months.specs.Theorems.{found-are-sui-days}
 use Rattle.months.specs.theory.Answered.{days-answered, days-refused, months-not-kept, months-refused, months-found}
-use Rattle.months.specs.theory.Days.{found-twelve, found-small}
+use Rattle.months.specs.theory.Days.{found-small}
 use Rattle.months.specs.theory.Kept.{Kept, kept, year-small, days-small}
 use Rattle.month_rule.proofs.months_of.Statement.{statement}
 use Rattle.month_rule.proofs.months_of.Tie as tie
@@ -94,7 +95,7 @@ sui-of-requires c κs =
     let a = start .args in
     let limits = at-limits lists in (
       rw (toZ-ofZ (start .fits .year)) (year-small (a .year) (limits .year-kept)),
-      (found-twelve (a .moons .now) (a .zhongqi .now) (at-days c), found-small (a .moons .now) (a .zhongqi .now) (at-days c) (all-wider (days-small (a .moons .now) (limits .moons-near)) (omega arith))),
+      (found-are-sui-days (a .moons .now) (a .zhongqi .now) (limits .moons-rise) (limits .thirteen) (at-days c), found-small (a .moons .now) (a .zhongqi .now) (at-days c) (all-wider (days-small (a .moons .now) (limits .moons-near)) (omega arith))),
     )
 
 returns-3 : tie.Need-returns-3

@@ -1,16 +1,16 @@
--- The leap month: where it stands in a sui of 13 and of 12 months, and what refusal 11 comes to in both. Assumes nothing.
-use mathlib.Core.Path.{_≡_, refl, _∙_}
-use mathlib.Core.Bool.{Bool, true, false, cond, _&&_}
+-- The leap month: where it stands in a sui of 13 and of 12 months, and the verdict of each outcome. Assumes nothing.
+use mathlib.Core.Path.{_≡_, refl}
+use mathlib.Core.Bool.{Bool, true, false, cond}
 use Prim.Native.Nat.{ℕ, _≤_, _<_}
 use native.Mathlib.Omega.{arith}
 use native.Mathlib.Decide.{decLt}
 use borrow.Author.Tests.{eq-eqb, ne-eqb, eqb-true, eqb-false}
 use lib.Dec.{eqb, ltb}
 use Rattle.refusals.specs.Verdict.{answered, refused}
-use Rattle.whole.specs.Found.{firstBelow, firstBelow-small, firstBelow-passes}
+use Rattle.whole.specs.Found.{firstBelow, firstBelow-passes}
 use lib.IntN.{ℤ}
 use Rattle.months.specs.declared.SuiDays.{SuiDays}
-use Rattle.months.specs.Months.{without, firstWithout, leapMonth, noneWithout, leapMonthJudged, lengthsJudged, firstBadMonth, numbered, suiOf}
+use Rattle.months.specs.Months.{without, firstWithout, leapMonth, lengthsJudged, firstBadMonth, numbered, suiOf}
 
 module _ (days : SuiDays) where
   pub leap-of-thirteen : days .months ≡ 13 → firstWithout days ≡ leapMonth days
@@ -21,43 +21,26 @@ module _ (days : SuiDays) where
   unfolding leapMonth
   leap-of-others e = rw (ne-eqb (days .months) 13 e)
 
-  -- the leap month's place is 13 where refusal 11 applies, and only there
-  pub none-without : days .months ≤ 13 → eqb (leapMonth days) 13 ≡ noneWithout days
-  unfolding noneWithout
-  none-without h = go (eqb (days .months) 13) refl
-    where
-      go : (b : Bool) → eqb (days .months) 13 ≡ b → eqb (leapMonth days) 13 ≡ (b && eqb (firstWithout days) (days .months))
-      go true e = let n = eqb-true (days .months) 13 e in rw (← leap-of-thirteen n, n)
-      go false e = let n = eqb-false (days .months) 13 e in rw (← leap-of-others n) e
-
   -- ---- the verdict of each outcome
   module _ (year : ℤ) where
     pub sui-bad-length : ltb (firstBadMonth days) (days .months) ≡ true → refused 10 0 ≡ suiOf year days
     unfolding suiOf lengthsJudged
     sui-bad-length e = rw e
 
-    module _ (good : ltb (firstBadMonth days) (days .months) ≡ false) where
-      pub sui-none-without : noneWithout days ≡ true → refused 11 0 ≡ suiOf year days
-      unfolding suiOf lengthsJudged leapMonthJudged
-      sui-none-without e = rw (good, e)
-
-      pub sui-numbered : noneWithout days ≡ false → answered (numbered year days) ≡ suiOf year days
-      unfolding suiOf lengthsJudged leapMonthJudged
-      sui-numbered e = rw (good, e)
+    pub sui-numbered : ltb (firstBadMonth days) (days .months) ≡ false → answered (numbered year days) ≡ suiOf year days
+    unfolding suiOf lengthsJudged
+    sui-numbered e = rw e
 
 -- ---- where the leap month can stand
 module _ (days : SuiDays) (few : days .months ≤ 13) where
-  leap-small : leapMonth days ≤ days .months
-  unfolding leapMonth firstWithout
-  leap-small = go (eqb (days .months) 13)
+  -- not behind thirteen months, where one of thirteen has no zhongqi
+  pub leap-by-twelve : (days .months ≡ 13 → firstWithout days < 13) → leapMonth days ≤ 12
+  unfolding leapMonth
+  leap-by-twelve one = go (eqb (days .months) 13) refl
     where
-      go : (b : Bool) → cond b (firstWithout days) (days .months) ≤ days .months
-      go true = firstBelow-small (without days) (days .months)
-      go false = omega arith
-
-  -- not behind twelve other months, where one has no zhongqi
-  pub leap-by-twelve : noneWithout days ≡ false → leapMonth days ≤ 12
-  leap-by-twelve e = let other = eqb-false (leapMonth days) 13 (none-without days few ∙ e) in omega (arith, leap-small)
+      go : (b : Bool) → eqb (days .months) 13 ≡ b → cond b (firstWithout days) (days .months) ≤ 12
+      go true e = omega (arith, one (eqb-true (days .months) 13 e))
+      go false e = let other = eqb-false (days .months) 13 e in omega arith
 
   -- not first, where the first has one
   pub leap-not-first : 0 < days .months → without days 0 ≡ false → 0 < leapMonth days

@@ -1,4 +1,4 @@
--- An accepted sui: its months are those of the definition, of good length, and a leap month is there where there are thirteen. Assumes nothing.
+-- An accepted sui: its months are those of the definition, and of good length. Assumes nothing.
 use mathlib.Core.Path.{_≡_, refl, ap}
 use mathlib.Core.Bool.{true, false}
 use mathlib.Core.List.{List, [], _∷_}
@@ -9,12 +9,12 @@ use lib.IntN.{ℤ, _+ℤ_}
 use lib.ListN.{length, getD, replicate}
 use Rattle.whole.specs.Solver.{⇑, ring}
 use Rattle.whole.specs.Tabulated.{getD-tabulate}
-use Rattle.refusals.specs.Verdict.{answered, _before_, test-answered, then-answered, answers-apart}
+use Rattle.refusals.specs.Verdict.{answered, test-answered, then-answered, answers-apart}
 use Rattle.months.specs.declared.Month.{Month}
 use Rattle.months.specs.declared.SuiDays.{SuiDays}
 use Rattle.months.specs.declared.Sui.{Sui}
 use Rattle.months.specs.Handles.{noMonth, handleAt, monthOf}
-use Rattle.months.specs.Months.{monthFirst, leapMonth, monthAt, numbered, firstBadMonth, lengthsJudged, noneWithout, leapMonthJudged, daysOf, suiOf, suiIn}
+use Rattle.months.specs.Months.{monthFirst, leapMonth, monthAt, numbered, firstBadMonth, lengthsJudged, daysOf, suiOf, suiIn}
 use Rattle.months.specs.Limits.{rising}
 
 -- the month at a place of a sui
@@ -28,19 +28,15 @@ pub record IsSui (year : ℤ) (moons zhongqi : List ℤ) (sui : Sui) : Type 0 wh
   pub rule : suiIn year moons zhongqi ≡ answered sui
 
 module _ (year : ℤ) (days : SuiDays) {sui : Sui} (accepted : suiOf year days ≡ answered sui) where
-  lengths-pass : (ltb (firstBadMonth days) (days .months) ≡ false) × (leapMonthJudged days before answered (numbered year days) ≡ answered sui)
+  lengths-pass : (ltb (firstBadMonth days) (days .months) ≡ false) × (answered (numbered year days) ≡ answered sui)
   unfolding suiOf lengthsJudged
-  lengths-pass = test-answered (ltb (firstBadMonth days) (days .months)) 10 (leapMonthJudged days before answered (numbered year days)) sui accepted
-
-  leap-passes : (noneWithout days ≡ false) × (answered (numbered year days) ≡ answered sui)
-  unfolding leapMonthJudged
-  leap-passes = test-answered (noneWithout days) 11 (answered (numbered year days)) sui (lengths-pass .1)
+  lengths-pass = test-answered (ltb (firstBadMonth days) (days .months)) 10 (answered (numbered year days)) sui accepted
 
   pub no-bad-month : ltb (firstBadMonth days) (days .months) ≡ false
   no-bad-month = lengths-pass .0
 
   pub sui-is : numbered year days ≡ sui
-  sui-is = answers-apart (leap-passes .1)
+  sui-is = answers-apart (lengths-pass .1)
 
   pub sui-count : days .months ≡ sui .count
   unfolding numbered

@@ -1,27 +1,22 @@
--- Of thirteen months one has no zhongqi: the thirteenth zhongqi, the second solstice, lies on or after the sui's end, so at most twelve lie in the sui.
--- Assumes nothing.
+-- Of thirteen months one has no zhongqi: the thirteenth zhongqi, the second solstice, lies on or after the sui's end, so at most twelve lie in the sui's months;
+-- and each day lies in one month at most. Assumes nothing.
 use mathlib.Core.Path.{_≡_, refl}
 use mathlib.Core.Bool.{Bool, true, false, _&&_}
 use mathlib.Core.List.{List, [], _∷_}
 use Prim.Native.Nat.{ℕ, zero, suc, _+_, _-_, _≤_, _<_}
 use native.Mathlib.Omega.{arith}
-use borrow.Author.Tests.{eqb-true, eqb-false}
-use lib.Dec.{eqb}
+use native.Mathlib.Decide.{decLt}
+use borrow.Author.Tests.{eqb-false}
 use lib.IntN.{ℤ, pos}
 use lib.ListN.{length, getD}
 use lib.Signed.{leZ, ltZ, _≤ℤ_, _<ℤ_}
 use Rattle.whole.specs.Counted.{one, one-small, countOf, count-small}
-use Rattle.whole.specs.Found.{firstBelow-before}
-use Rattle.whole.specs.Laws.{<-≤-trans}
+use Rattle.whole.specs.Found.{firstBelow-small, firstBelow-before}
+use Rattle.whole.specs.Laws.{<-≤-trans, ≤-trans, ≤-of-≡}
 use Rattle.whole.specs.Parts.{ℤ-rules}
 use Rattle.whole.specs.Solver.{lt-yes, lt-no, le-no, yes-lt, no-lt, yes-le, no-le}
-use Rattle.refusals.specs.Verdict.{answered}
 use Rattle.months.specs.declared.SuiDays.{SuiDays}
-use Rattle.months.specs.Months.{isWithin, zhongqiIn, zhongqiOf, without, firstWithout, noneWithout, monthFirst, daysOf, byFirst, bySecond, monthCount, lastNotAfter, secondSolstice}
-use Rattle.months.specs.Limits.{rising}
-use Rattle.months.specs.theory.Days.{found-first, found-months, found-listed, found-count, found-zhongqi}
-use Rattle.months.specs.theory.Listed.{at-most-thirteen}
-use Rattle.months.specs.theory.Rising.{in-order, last-is-by}
+use Rattle.months.specs.Months.{IsSuiDays, isWithin, zhongqiIn, zhongqiOf, without, firstWithout, monthFirst, secondSolstice}
 
 -- ---- two stretches that meet
 module _ {a b c : ℤ} (h : a ≤ℤ b) (k : b ≤ℤ c) where
@@ -52,17 +47,11 @@ every-has : (days : SuiDays) → firstWithout days ≡ days .months → (i : ℕ
 unfolding firstWithout without
 every-has days e i h = let some = eqb-false (zhongqiOf days i) 0 (firstBelow-before (without days) (days .months) i (omega arith)) in omega arith
 
-module _ (moons zhongqi : List ℤ) (rises : rising moons ≡ true) (long : length zhongqi ≡ 13) (days : SuiDays) (found : daysOf moons zhongqi ≡ answered days) where
+module _ (days : SuiDays) (d : IsSuiDays days) where
   -- the months begin one after the other
-  firsts-in-order : (i k : ℕ) → i + k ≤ days .months → monthFirst days i ≤ℤ monthFirst days (i + k)
-  unfolding monthCount
-  firsts-in-order i k h =
-      let from = byFirst moons zhongqi - 1 in
-      let listed = found-listed moons zhongqi found in
-      let count = found-months moons zhongqi found in
-      let some = at-most-thirteen (monthCount moons zhongqi) (found-count moons zhongqi found) in
-      let e : from + (i + k) ≡ from + i + k = omega arith in
-      rw (found-first moons zhongqi found i (omega arith), found-first moons zhongqi found (i + k) h, e) (in-order moons rises (from + i) k (omega arith))
+  from-first : (k : ℕ) → k ≤ days .months → monthFirst days 0 ≤ℤ monthFirst days k
+  from-first zero h = ≤-of-≡ refl
+  from-first (suc k) h = let e : suc k ≡ k + 1 = omega arith in rw e (≤-trans (from-first k (omega arith)) (d .in-order k (omega arith)))
 
   -- as many zhongqi as months, where each month has one
   at-least : ((i : ℕ) → i < days .months → 0 < zhongqiOf days i) → (k : ℕ) → k ≤ days .months → k ≤ zhongqiIn (monthFirst days 0) (monthFirst days k) (days .zhongqi)
@@ -70,35 +59,29 @@ module _ (moons zhongqi : List ℤ) (rises : rising moons ≡ true) (long : leng
   at-least each zero h = omega arith
   at-least each (suc k) h =
       let e : suc k ≡ k + 1 = omega arith in
-      let sum = zhongqiIn-both {a = monthFirst days 0} {b = monthFirst days k} {c = monthFirst days (k + 1)} (let z : 0 + k ≡ k = omega arith in rw z at (firsts-in-order 0 k (omega arith))) (firsts-in-order k 1 (omega arith)) (days .zhongqi) in
+      let sum = zhongqiIn-both {a = monthFirst days 0} {b = monthFirst days k} {c = monthFirst days (k + 1)} (from-first k (omega arith)) (d .in-order k (omega arith)) (days .zhongqi) in
       rw e (omega (arith, sum, each k (omega arith), at-least each k (omega arith)))
 
-  -- the second solstice lies on or after the sui's end
-  end-by-second : monthFirst days (days .months) ≤ℤ secondSolstice zhongqi
-  unfolding monthCount bySecond lastNotAfter
-  end-by-second =
-      let listed = found-listed moons zhongqi found in
-      let count = found-months moons zhongqi found in
-      let some = at-most-thirteen (monthCount moons zhongqi) (found-count moons zhongqi found) in
-      let last : byFirst moons zhongqi - 1 + days .months ≡ bySecond moons zhongqi - 1 = omega arith in
-      rw (found-first moons zhongqi found (days .months) (omega arith), last) (last-is-by (secondSolstice zhongqi) moons rises (omega arith))
-
+  -- at most twelve zhongqi, where the second solstice lies on or after the sui's end
   at-most-twelve : zhongqiIn (monthFirst days 0) (monthFirst days (days .months)) (days .zhongqi) < 13
   unfolding isWithin
   at-most-twelve =
       let end = monthFirst days (days .months) in
-      let late : isWithin (monthFirst days 0) end (secondSolstice zhongqi) ≡ false = rw (no-lt {a = secondSolstice zhongqi} {b = end} end-by-second) (second-no (leZ (monthFirst days 0) (secondSolstice zhongqi))) in
-      rw (← found-zhongqi moons zhongqi found) (omega (arith, outside (monthFirst days 0) end zhongqi 12 (omega arith) late))
+      let second = secondSolstice (days .zhongqi) in
+      let late : isWithin (monthFirst days 0) end second ≡ false = rw (no-lt {a = second} {b = end} (d .end-by-second)) (second-no (leZ (monthFirst days 0) second)) in
+      let long = d .thirteen in
+      omega (arith, outside (monthFirst days 0) end (days .zhongqi) 12 (omega arith) late)
     where
       second-no : (b : Bool) → (b && false) ≡ false
       second-no true = refl
       second-no false = refl
 
-  pub one-without : noneWithout days ≡ false
-  unfolding noneWithout
-  one-without = go (eqb (days .months) 13) (eqb (firstWithout days) (days .months)) refl refl
+  pub one-without : days .months ≡ 13 → firstWithout days < 13
+  unfolding firstWithout
+  one-without thirteen = go (decLt (firstWithout days) 13)
     where
-      go : (s t : Bool) → eqb (days .months) 13 ≡ s → eqb (firstWithout days) (days .months) ≡ t → (s && t) ≡ false
-      go false t p q = refl
-      go true false p q = refl
-      go true true p q = let n = eqb-true (days .months) 13 p in absurd (omega (arith, at-most-twelve, at-least (every-has days (eqb-true (firstWithout days) (days .months) q)) (days .months) (omega arith)))
+      go : Dec (firstWithout days < 13) → firstWithout days < 13
+      go (yes h) = h
+      go (no h) =
+          let all : firstWithout days ≡ days .months = omega (arith, firstBelow-small (without days) (days .months)) in
+          absurd (omega (arith, at-most-twelve, at-least (every-has days all) (days .months) (omega arith)))

@@ -11,9 +11,10 @@ use Rattle.inputs.specs.Theorems.{known}
 use Rattle.months.specs.Months.{suiOf}
 use Rattle.months.specs.Answers.{suiAnswer}
 use Rattle.months.specs.theory.Answered.{days-answered, days-refused}
-use Rattle.months.specs.theory.Days.{found-twelve, found-small}
+use Rattle.months.specs.theory.Days.{found-small}
 use Rattle.months.specs.theory.Kept.{year-small}
 use Rattle.sui.specs.Sui.{newMoonDays, zhongqiDays, suiDays, suiFor}
+use Rattle.sui.specs.Theorems.{sui-days-of-accepted}
 use Rattle.sui.specs.theory.Answered.{sui-refused, sui-found, Found, days-found, new-moons-small}
 use Rattle.one_sui.proofs.sui.Statement.{statement}
 use Rattle.one_sui.proofs.sui.Tie as tie
@@ -110,7 +111,7 @@ sui-of-requires c κs =
     let found = at-found c in
     let zhongqi = zhongqiDays i utc8 (found .first) (found .last) in (
       rw (toZ-ofZ (start .fits .year)) (year-small (start .args .year) (found .in-range)),
-      (found-twelve (newMoonDays i utc8) zhongqi (found .by-rule), found-small (newMoonDays i utc8) zhongqi (found .by-rule) (new-moons-small i utc8 (at-known judged) zone-small)),
+      (sui-days-of-accepted i utc8 (start .args .year) (at-known judged) (at-days c), found-small (newMoonDays i utc8) zhongqi (found .by-rule) (new-moons-small i utc8 (at-known judged) zone-small)),
     )
 
 returns-3 : tie.Need-returns-3

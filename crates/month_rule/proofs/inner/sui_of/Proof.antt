@@ -1,15 +1,15 @@
 -- `month_rule::inner::sui_of` meets its contract. In the needs, `start` is the function's entry. Assumes nothing.
-use mathlib.Core.Path.{_≡_, sym, ap, _∙_}
+use mathlib.Core.Path.{_≡_, ap, _∙_}
 use mathlib.Core.Bool.{true, false}
 use borrow.Author.Needs.{needs}
-use borrow.Author.Tests.{lt-ltb, le-ltb, eq-eqb, ne-eqb}
-use lib.Dec.{eqb, ltb}
+use borrow.Author.Tests.{lt-ltb, le-ltb}
+use lib.Dec.{ltb}
 use mir.Facts.{toZ-ofZ}
 use Prim.Native.Nat.{_≤_}
-use Rattle.months.specs.Months.{firstBadMonth, noneWithout, numbered}
+use Rattle.months.specs.Months.{firstBadMonth}
 use Rattle.months.specs.Answers.{suiAnswer}
 use Rattle.months.specs.theory.Listed.{at-most-thirteen}
-use Rattle.months.specs.theory.Leap.{none-without, sui-bad-length, sui-none-without, sui-numbered}
+use Rattle.months.specs.theory.Leap.{sui-bad-length, sui-numbered}
 use Rattle.month_rule.proofs.inner.sui_of.Statement.{statement}
 use Rattle.month_rule.proofs.inner.sui_of.Tie as tie
 use Rattle.month_rule.proofs.inner.sui_of.Reads as reads
@@ -34,14 +34,11 @@ called = (
 -- ---- what is known at each place
 
 at-few : (c : lts.Start called reads.Pre reads.Post) → c .args .days .months ≤ 13
-at-few c = at-most-thirteen (c .args .days .months) (c .pre .1 .0) .1
+at-few c = at-most-thirteen (c .args .days .months) (c .pre .1 .0 .count) .1
 
 -- every month is 29 or 30 days long
 at-good : (c : lts.Else1 called reads.Pre reads.Post) → (let days = c .before .before .args .days in ltb (firstBadMonth days) (days .months) ≡ false)
 at-good c = let days = c .before .before .args .days in rw (← c .before .first-bad-month .ensures) (le-ltb (c .before .first-bad-month .result) (days .months) (c .if1 .left))
-
-at-leap : (c : lts.After-leap-month called reads.Pre reads.Post) → (let days = c .before .before .before .args .days in eqb (c .leap-month .result) 13 ≡ noneWithout days)
-at-leap c = let start = c .before .before .before in rw (c .leap-month .ensures) (none-without (start .args .days) (at-few start))
 
 -- ---- the needs
 
@@ -59,30 +56,18 @@ returns c =
     c .no-sui .ensures ∙ ap suiAnswer (sui-bad-length days (start .args .year) bad)
 
 leap-month-requires : tie.Need-leap-month-requires
-leap-month-requires c κs = at-few (c .before .before)
-
-no-sui-requires-2 : tie.Need-no-sui-requires-2
-no-sui-requires-2 c κs = search needs
-
-returns-2 : tie.Need-returns-2
-returns-2 c =
-    let leap = c .before .before in
-    let start = leap .before .before .before in
-    let none = sym (at-leap leap) ∙ eq-eqb (leap .leap-month .result) 13 (c .before .if2 .taken) in
-    c .no-sui2 .ensures ∙ ap suiAnswer (sui-none-without (start .args .days) (start .args .year) (at-good (leap .before)) none)
+leap-month-requires c κs = c .before .before .pre .1 .0
 
 numbered-requires : tie.Need-numbered-requires
 numbered-requires c κs =
-    let leap = c .before in
-    let start = leap .before .before .before in
-    (rw (toZ-ofZ (start .fits .year)) (start .pre .0), (at-few start, (start .pre .1 .1, leap .leap-month .ensures)))
+    let start = c .before .before .before in
+    (rw (toZ-ofZ (start .fits .year)) (start .pre .0), (at-few start, (start .pre .1 .1, c .leap-month .ensures)))
 
-returns-3 : tie.Need-returns-3
-returns-3 c =
-    let leap = c .before .before in
-    let start = leap .before .before .before in
-    let some = sym (at-leap leap) ∙ ne-eqb (leap .leap-month .result) 13 (c .before .if2 .left) in
-    rw (rw (toZ-ofZ (start .fits .year)) at (c .numbered .ensures)) (ap suiAnswer (sui-numbered (start .args .days) (start .args .year) (at-good (leap .before)) some))
+returns-2 : tie.Need-returns-2
+returns-2 c =
+    let good = c .before .before in
+    let start = good .before .before in
+    rw (rw (toZ-ofZ (start .fits .year)) at (c .numbered .ensures)) (ap suiAnswer (sui-numbered (start .args .days) (start .args .year) (at-good good)))
 
 pub sui-of-spec : {M : Type 1} → statement M
 sui-of-spec =
@@ -92,7 +77,5 @@ sui-of-spec =
     no-sui-requires
     returns
     leap-month-requires
-    no-sui-requires-2
-    returns-2
     numbered-requires
-    returns-3)
+    returns-2)

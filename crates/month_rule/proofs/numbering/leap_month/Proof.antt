@@ -6,7 +6,7 @@ use Rattle.month_rule.proofs.numbering.leap_month.Statement.{statement}
 use Rattle.month_rule.proofs.numbering.leap_month.Tie as tie
 
 first-without-requires : tie.Need-first-without-requires
-first-without-requires c κs = search needs
+first-without-requires c κs = (c .before .pre, c .if1 .taken)
 
 returns : tie.Need-returns
 returns c = c .first-without .ensures ∙ leap-of-thirteen (c .before .before .args .days) (c .before .if1 .taken)

@@ -8,8 +8,9 @@ use Rattle.months.specs.Months.{suiOf}
 use Rattle.months.specs.Answers.{suiAnswer}
 use Rattle.months.specs.theory.Answered.{days-answered, days-refused}
 use Rattle.months.specs.theory.Kept.{year-small}
-use Rattle.months.specs.theory.Days.{found-twelve, found-small}
+use Rattle.months.specs.theory.Days.{found-small}
 use Rattle.sui.specs.Sui.{newMoonDays, zhongqiDays, suiDays}
+use Rattle.sui.specs.Theorems.{sui-days-of-accepted}
 use Rattle.sui.specs.theory.Answered.{Found, days-found, new-moons-small}
 use Rattle.suis.proofs.inner.sui_after.Statement.{statement}
 use Rattle.suis.proofs.inner.sui_after.Tie as tie
@@ -65,10 +66,11 @@ sui-of-requires c κs =
     let start = c .before .before .before in
     let i = inputs-of start in
     let zone = start .args .zone in
+    let is-known = start .pre .ahead .is-known in
     let found = at-found c in
     let zhongqi = zhongqiDays i zone (found .first) (found .last) in (
       rw (toZ-ofZ (start .fits .year)) (year-small (start .args .year) (found .in-range)),
-      (found-twelve (newMoonDays i zone) zhongqi (found .by-rule), found-small (newMoonDays i zone) zhongqi (found .by-rule) (new-moons-small i zone (start .pre .ahead .is-known) (start .pre .ahead .suns-searched .zone-small))),
+      (sui-days-of-accepted i zone (start .args .year) is-known (at-days c), found-small (newMoonDays i zone) zhongqi (found .by-rule) (new-moons-small i zone is-known (start .pre .ahead .suns-searched .zone-small))),
     )
 
 returns-2 : tie.Need-returns-2

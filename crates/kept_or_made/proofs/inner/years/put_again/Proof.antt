@@ -33,7 +33,7 @@ abbrev sui-of : Start → Verdict Sui
 sui-of start = suiOf (start .args .year) (start .args .days)
 
 few-months : (start : Start) → start .args .days .months ≤ 13
-few-months start = at-most-thirteen (start .args .days .months) (start .pre .1 .0) .1
+few-months start = at-most-thirteen (start .args .days .months) (start .pre .1 .0 .count) .1
 
 -- the sui that is made
 made : (c : lts.After-enum-told called reads.Pre reads.Post) → (let found = c .before .before in sui-of (found .before .before .before) ≡ answered (found .sui-of .result .sui))

@@ -7,12 +7,13 @@ use Rattle.whole.specs.Evaluated.{sameWords}
 use Rattle.refusals.specs.Verdict.{Verdict, answered}
 use Rattle.inputs.specs.Inputs.{Inputs, inputs}
 use Rattle.months.specs.declared.SuiDays.{SuiDays}
-use Rattle.months.specs.Months.{twelveOrThirteen}
+use Rattle.months.specs.Months.{IsSuiDays}
 use Rattle.months.specs.theory.Answered.{days-answered, days-refused}
 use Rattle.months.specs.theory.Kept.{year-small}
-use Rattle.months.specs.theory.Days.{found-twelve, found-small}
+use Rattle.months.specs.theory.Days.{found-small}
 use Rattle.months.specs.theory.Listed.{at-most-thirteen}
 use Rattle.sui.specs.Sui.{newMoonDays, zhongqiDays, suiDays}
+use Rattle.sui.specs.Theorems.{sui-days-of-accepted}
 use Rattle.sui.specs.theory.Answered.{Found, days-found, new-moons-small}
 use Rattle.rebuilt.specs.Rebuild.{daysWords}
 use Rattle.kept_or_made.specs.Again.{paperPut}
@@ -60,8 +61,8 @@ at-days c =
 at-found : (c : Told) → Found (inputs-of (start-of c)) (start-of c .args .zone) (start-of c .args .year) (days-of c)
 at-found c = let start = start-of c in days-found (inputs-of start) (start .args .zone) (start .args .year) (at-days c)
 
-twelve : (c : Told) → twelveOrThirteen (days-of c .months) ≡ true
-twelve c = let start = start-of c in let found = at-found c in found-twelve (newMoonDays (inputs-of start) (start .args .zone)) (zhongqiDays (inputs-of start) (start .args .zone) (found .first) (found .last)) (found .by-rule)
+at-sui-days : (c : Told) → IsSuiDays (days-of c)
+at-sui-days c = let start = start-of c in sui-days-of-accepted (inputs-of start) (start .args .zone) (start .args .year) (start .pre .0 .ahead .is-known) (at-days c)
 
 -- whether they are the old ones
 at-same : (c : lts.After-same-words called reads.Pre reads.Post) → (let told = c .before .before .before .before in c .same-words .result ≡ sameWords (start-of told .args .before .now) (daysWords (days-of told)))
@@ -92,7 +93,7 @@ days-words-requires c κs =
     let told = c .before in
     let start = start-of told in
     let known = start .pre .0 .ahead .is-known in
-    (at-most-thirteen (days-of told .months) (twelve told) .1, (moons-long (inputs-of start) (start .args .zone) known (start .args .year) (at-days told), zhongqi-long (inputs-of start) (start .args .zone) known (start .args .year) (at-days told)))
+    (at-most-thirteen (days-of told .months) (at-sui-days told .count) .1, (moons-long (inputs-of start) (start .args .zone) known (start .args .year) (at-days told), zhongqi-long (inputs-of start) (start .args .zone) known (start .args .year) (at-days told)))
 
 slice-aggregate-same-words : tie.Need-slice-aggregate-same-words
 slice-aggregate-same-words c = search needs
@@ -112,7 +113,7 @@ put-again-requires c κs =
     rw (toZ-ofZ (start .fits .year)) (
       year-small (a .year) (found .in-range),
       (
-        twelve told,
+        at-sui-days told,
         (
           found-small (newMoonDays i (a .zone)) (zhongqiDays i (a .zone) (found .first) (found .last)) (found .by-rule) small,
           ((λ q. start .pre .1 .0 (days-of told) (at-days told) (sym (at-same same) ∙ q)), (start .pre .1 .1 .0, (start .pre .1 .1 .1 .0, (start .pre .1 .1 .1 .1 .0, start .pre .1 .1 .1 .1 .1 .0)))),
