@@ -1,6 +1,5 @@
 -- `month_rule::numbering::leap_month` meets its contract. Assumes nothing.
 use mathlib.Core.Path.{_∙_}
-use borrow.Author.Needs.{needs}
 use Rattle.months.specs.theory.Leap.{leap-of-thirteen, leap-of-others}
 use Rattle.month_rule.proofs.numbering.leap_month.Statement.{statement}
 use Rattle.month_rule.proofs.numbering.leap_month.Tie as tie
