@@ -1,5 +1,5 @@
 // The almanac file: checked, read, written, built and rebuilt.
-use answers::inner::record;
+use answer_record::inner::record;
 use times::Second;
 ghost use mathlib.Core.Path.{_≡_};
 ghost use lib.ListN.{length};

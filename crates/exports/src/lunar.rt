@@ -1,5 +1,5 @@
 // The months of a sui, from days and from series, into lent words.
-use answers::inner::record;
+use answer_record::inner::record;
 use build::inner::records::put_months;
 use months::SuiAnswer;
 use refusals::Check;

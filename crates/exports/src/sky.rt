@@ -1,5 +1,5 @@
 // Series and marks, and the inputs of a build.
-use answers::inner::record;
+use answer_record::inner::record;
 use series::Body;
 use times::Second;
 ghost use mathlib.Core.Path.{_≡_};

@@ -1,5 +1,5 @@
 // Days and dates, and the clock.
-use answers::inner::record;
+use answer_record::inner::record;
 use dates::Date;
 use dates::DayAnswer;
 use times::Day;

@@ -6,7 +6,7 @@ ghost use mathlib.Core.Path.{_≡_};
 ghost use lib.ListN.{length};
 ghost use Rattle.refusals.specs.Lent.{writtenInto};
 ghost use Rattle.rebuilt.specs.Rebuild.{paperRebuilt, counted, new-bytes, kept-years};
-ghost use Rattle.rebuilding.specs.Rebuilding.{rebuiltFromTaken};
+ghost use Rattle.rebuilt_from.specs.RebuiltFrom.{rebuiltFromTaken};
 
 mod sections;
 

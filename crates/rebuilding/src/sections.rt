@@ -11,7 +11,7 @@ ghost use Rattle.refusals.specs.Lent.{writtenInto};
 ghost use Rattle.clock.specs.Clock.{utc8};
 ghost use Rattle.layout.specs.Layout.{paperPlaces, inputsAt};
 ghost use Rattle.rebuilt.specs.Rebuild.{rebuilt, paperRebuilt, counted, new-bytes, kept-years};
-ghost use Rattle.rebuilding.specs.theory.Cases.{placesTaken, Sections};
+ghost use Rattle.rebuilt_from.specs.theory.Cases.{placesTaken, Sections};
 
 // Where they stand behind first Y and count; 13 where the input breaks its layout.
 pub fn find_sections(words: &[i64], bytes: usize) -> PlacesAnswer

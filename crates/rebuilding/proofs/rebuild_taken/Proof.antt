@@ -4,7 +4,7 @@ use lib.ListN.{length}
 use Rattle.refusals.specs.Verdict.{answered}
 use Rattle.layout.specs.Layout.{paperPlaces}
 use Rattle.building.specs.theory.Cases.{bounded}
-use Rattle.rebuilding.specs.theory.Cases.{placesTaken, Found, found, sections, refusing, passing-on, old-broken, new-broken, both-found}
+use Rattle.rebuilt_from.specs.theory.Cases.{placesTaken, Found, found, sections, refusing, passing-on, old-broken, new-broken, both-found}
 use borrow.Author.Needs.{needs}
 use Rattle.rebuilding.proofs.rebuild_taken.Statement.{statement}
 use Rattle.rebuilding.proofs.rebuild_taken.Tie as tie

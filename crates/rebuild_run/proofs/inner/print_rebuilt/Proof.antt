@@ -4,8 +4,8 @@ use Prim.Native.Nat.{_≤_}
 use lib.ListN.{length}
 use lib.Seq.{length-take-le}
 use Rattle.rebuilt.specs.Rebuild.{paperRebuilt}
-use Rattle.rebuilding.specs.Rebuilding.{rebuiltFromTaken}
-use Rattle.rebuilding.specs.theory.Cases.{new-inside}
+use Rattle.rebuilt_from.specs.RebuiltFrom.{rebuiltFromTaken}
+use Rattle.rebuilt_from.specs.theory.Cases.{new-inside}
 use borrow.Author.Needs.{needs}
 use Rattle.rebuild_run.proofs.inner.print_rebuilt.Statement.{statement}
 use Rattle.rebuild_run.proofs.inner.print_rebuilt.Tie as tie

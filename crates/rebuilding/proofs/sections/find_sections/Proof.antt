@@ -8,7 +8,7 @@ use lib.ListN.{length, drop, length-drop}
 use lib.Seq.{length-take-le}
 use Rattle.building.specs.Building.{allTaken}
 use Rattle.building.specs.theory.Cases.{bounded}
-use Rattle.rebuilding.specs.theory.Cases.{not-taken, too-few, enough}
+use Rattle.rebuilt_from.specs.theory.Cases.{not-taken, too-few, enough}
 use borrow.Author.Needs.{needs}
 use Rattle.rebuilding.proofs.sections.find_sections.Statement.{statement}
 use Rattle.rebuilding.proofs.sections.find_sections.Tie as tie

@@ -10,7 +10,7 @@ use mir.Facts.{toZ-ofZ}
 use Rattle.inputs.specs.Inputs.{inputs}
 use Rattle.layout.specs.declared.inner.Places.{Places}
 use Rattle.layout.specs.Layout.{wordsFrom, inputsAt}
-use Rattle.rebuilding.specs.theory.Cases.{by-inputs}
+use Rattle.rebuilt_from.specs.theory.Cases.{by-inputs}
 use borrow.Author.Needs.{needs}
 use Rattle.rebuilding.proofs.sections.rebuild_sections.Statement.{statement}
 use Rattle.rebuilding.proofs.sections.rebuild_sections.Tie as tie

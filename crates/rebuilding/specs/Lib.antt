@@ -1,6 +1,0 @@
-pub mod Rebuilding
-pub mod theory
-pub mod Theorems
-pub mod Pieces
-pub mod OneResult
-pub mod Examples
