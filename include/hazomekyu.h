@@ -94,8 +94,7 @@ int64_t hzk_judge_inputs(const int64_t *leap, size_t leap_words, int64_t sun_sta
 int64_t hzk_months_of(int64_t year, const int64_t *new_moons, size_t new_moon_words, const int64_t *zhongqi, size_t zhongqi_words, int64_t *months,
                       size_t month_room, hzk_answer *answer);
 
-/* The months of the sui of a year, from leap table and series: months, 12 or 13. Writes three words a month. 1; Sun 2 to 5; Moon 2 to 5; 7 to 10,
-   12. */
+/* The months of the sui of a year, from leap table and series: months, 12 or 13. Writes three words a month. 1; Sun 2 to 5; Moon 2 to 5; 7 to 10; 12. */
 int64_t hzk_sui(const int64_t *leap, size_t leap_words, int64_t sun_start, const int64_t *sun, size_t sun_words, int64_t moon_start, const int64_t *moon,
                 size_t moon_words, int64_t year, int64_t *months, size_t month_room, hzk_answer *answer);
 

@@ -1,5 +1,5 @@
--- The record of answers and refusals, and the room of a sui's months on both sides of what they take, each a computed fact, and all of them checked at once.
--- Assumes nothing.
+-- The record of answers and refusals, the numbers of refusals, and the room of a sui's months on both sides of what they take, each a computed fact, and all of
+-- them checked at once. Assumes nothing.
 use mathlib.Core.Bool.{Bool, true, false, not}
 use mathlib.Core.List.{List, [], _∷_}
 use Prim.Native.Nat.{ℕ, _^_, _-_}
@@ -17,6 +17,7 @@ use Rattle.months.specs.declared.Sui.{Sui}
 use Rattle.built.specs.Build.{wordsOf}
 use Rattle.answers.specs.Record.{numberOf, recordOf, noNumbers, dateNumbers, dayNumbers, milliNumbers, shownNumbers, valueNumbers, countNumbers, fileNumbers, rebuiltNumbers, bodyOf}
 use Rattle.answers.specs.Months.{suiWords, suiInto, suiNumbers}
+use Rattle.answers.specs.Fits.{inTable}
 
 -- ---- how the examples are written
 -- nine words
@@ -66,6 +67,14 @@ examples =
     ∷ sameWords (recordOf slow countNumbers) (zero9 (pos 4) (pos 15999) (pos 0))
     ∷ same (numberOf slow) (pos 4)
     ∷ sameWords (recordOf (refused 6 0) shownNumbers) (zero9 (pos 6) (pos 0) (pos 0))
+    -- the numbers of the table: 1 to 13, but for 11
+    ∷ not (inTable 0)
+    ∷ inTable 1
+    ∷ inTable 10
+    ∷ not (inTable 11)
+    ∷ inTable 12
+    ∷ inTable 13
+    ∷ not (inTable 14)
     -- 12 months take 36 words, 13 take 39
     ∷ isAccepted (suiInto (answered (suiOf 12)) 36)
     ∷ isRefused (suiInto (answered (suiOf 12)) 35) 12
