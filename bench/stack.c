@@ -84,6 +84,7 @@ static int64_t count_of_sun(void) { return hzk_count_marks(SUN_SERIES, &answer);
 static int64_t count_of_moon(void) { return hzk_count_marks(MOON_SERIES, &answer); }
 static int64_t list_of_sun(void) { return hzk_list_marks(SUN_SERIES, marks, 2 * MARKS, &answer); }
 static int64_t list_of_moon(void) { return hzk_list_marks(MOON_SERIES, marks, 2 * MARKS, &answer); }
+static int64_t walk_of_moon(void) { return hzk_walk_marks(HZK_MOON, in.moon_start, in.moon, 14, marks, 2 * MARKS, &answer); } /* a whole series takes minutes */
 static int64_t judge_inputs(void) { return hzk_judge_inputs(INPUTS, &answer); }
 static int64_t months_of(void) { return hzk_months_of(2033, new_moons, 15, zhongqi, 13, months, 39, &answer); }
 static int64_t sui(void) { return hzk_sui(INPUTS, 2027, months, 39, &answer); }
@@ -179,6 +180,7 @@ int main(int count, char **words) {
     MEASURE(count_of_moon);
     MEASURE(list_of_sun);
     MEASURE(list_of_moon);
+    MEASURE(walk_of_moon);
     MEASURE(judge_inputs);
     MEASURE(months_of);
     MEASURE(sui);

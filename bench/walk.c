@@ -1,6 +1,6 @@
-/* walk FILE BODY SEGMENTS: the marks of the first segments of a series, by a plain walk that compares the values of neighbouring seconds.
+/* walk FILE BODY SEGMENTS [list]: the marks of the first segments of a series, by a plain walk that compares the values of neighbouring seconds.
    It shares no code with the proved finder: sums are taken in 128 bits, and every second is visited. FILE holds signed 64-bit
-   little-endian words: segment count, start, fourteen coefficients a segment. BODY is S or M. It prints the count and a checksum. */
+   little-endian words: segment count, start, fourteen coefficients a segment. BODY is S or M. It prints the count and a checksum, and before them, if asked, each mark's index and second. */
 #include <stdint.h>
 #include <stdio.h>
 #include <stdlib.h>
@@ -28,7 +28,7 @@ static uint64_t mixed(uint64_t sum, int64_t word) {
 }
 
 int main(int argc, char **argv) {
-    if (argc != 4) return fprintf(stderr, "usage: walk FILE S|M SEGMENTS\n"), 2;
+    if (argc != 4 && argc != 5) return fprintf(stderr, "usage: walk FILE S|M SEGMENTS [list]\n"), 2;
     FILE *f = fopen(argv[1], "rb");
     int64_t head[2];
     if (!f || fread(head, 8, 2, f) != 2) return 2;
@@ -43,6 +43,7 @@ int main(int argc, char **argv) {
             int64_t index = (int64_t)floored(value(c + 14 * k, S / half * (i - half)), mark);
             if ((k || i) && last < index) {
                 marks++;
+                if (argc == 5) printf("%lld %lld\n", (long long)index, (long long)(start + 2 * half * k + i));
                 sum = mixed(mixed(sum, index), start + 2 * half * k + i);
             }
             last = index;

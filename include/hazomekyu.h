@@ -84,6 +84,10 @@ int64_t hzk_count_marks(bool moon, int64_t start, const int64_t *coefs, size_t c
 /* Every mark of a series: marks. Writes two words a mark, index and second, in order. 2 to 5, 12. */
 int64_t hzk_list_marks(bool moon, int64_t start, const int64_t *coefs, size_t coef_words, int64_t *marks, size_t mark_room, hzk_answer *answer);
 
+/* The same list by another way, for tests: every second of the series is visited and compared with the one before, and nothing is searched. What it answers and writes
+   is what hzk_list_marks does, for every input; a whole series takes minutes. 2 to 5, 12. */
+int64_t hzk_walk_marks(bool moon, int64_t start, const int64_t *coefs, size_t coef_words, int64_t *marks, size_t mark_room, hzk_answer *answer);
+
 /* Whether a build takes its inputs. 1; Sun 2 to 5; Moon 2 to 5; 7. */
 int64_t hzk_judge_inputs(const int64_t *leap, size_t leap_words, int64_t sun_start, const int64_t *sun, size_t sun_words, int64_t moon_start, const int64_t *moon,
                          size_t moon_words, hzk_answer *answer);

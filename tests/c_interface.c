@@ -237,6 +237,15 @@ static void series(void) {
     expect("list of a bad series, 3 before 12", hzk_list_marks(HZK_SUN, 0, LIST(SUN, SEGMENT(0, 4000000001, 0)), lend(&first_list), 0, fresh()), REFUSED_AT(3, 1));
     untouched("nothing of a bad series", &first_list);
 
+    expect("walk of the Sun", hzk_walk_marks(HZK_SUN, 0, LIST(SUN), lend(&first_list), 7, fresh()), ANSWERED(2));
+    holds("its words, and no more", &first_list, LIST(1, 1350000, 2, 2700000));
+    expect("walk of the Moon", hzk_walk_marks(HZK_MOON, 0, LIST(MOON), lend(&first_list), 2, fresh()), ANSWERED(1));
+    holds("its word", &first_list, LIST(1, 1));
+    expect("walk in a word less", hzk_walk_marks(HZK_SUN, 0, LIST(SUN), lend(&first_list), 3, fresh()), REFUSED(12));
+    untouched("nothing listed", &first_list);
+    expect("walk of a bad series, 3 before 12", hzk_walk_marks(HZK_SUN, 0, LIST(SUN, SEGMENT(0, 4000000001, 0)), lend(&first_list), 0, fresh()), REFUSED_AT(3, 1));
+    untouched("nothing of a bad series", &first_list);
+
     expect("the worked inputs", hzk_judge_inputs(LIST(-365, 32), 0, LIST(SUN), 0, LIST(MOON), fresh()), ACCEPTED);
     expect("inputs without a table, 1 before 3", hzk_judge_inputs(NO_WORDS, 0, LIST(SEGMENT(0, 4000000001, 0)), 0, LIST(MOON), fresh()), REFUSED(1));
     expect("a slow Sun before a bad Moon", hzk_judge_inputs(LIST(-365, 32), 0, LIST(SEGMENT(0, 138239999, 0)), 0, NO_WORDS, fresh()), REFUSED(4));

@@ -23,6 +23,16 @@ pub fn half_length(body: Body) -> usize
     }
 }
 
+// How many units a mark is.
+pub fn mark_size(body: Body) -> i64
+    ensures { λ r. ⌜ r ≡ pos (numbers body .markSize) ⌝ }
+{
+    match body {
+        Body::Sun => 540000000,
+        Body::Moon => 3240000000,
+    }
+}
+
 // The segment that has the second so many seconds after the start. Each body divides by a constant.
 fn segment_after(body: Body, seconds: usize) -> usize
     ensures { λ r. ⌜ r ≡ seconds / segmentLength body ⌝ }

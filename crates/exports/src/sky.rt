@@ -114,6 +114,23 @@ pub extern "C" fn hzk_list_marks(
     record::tell(record::list_record(listed), answer)
 }
 
+// The same list, by the plain walk.
+#[no_mangle]
+pub extern "C" fn hzk_walk_marks(
+    moon: bool,
+    start: i64,
+    coefs: &[i64],
+    marks: &mut [i64],
+    answer: &mut [i64; 9],
+) -> i64
+    ensures { λ r. ⌜ r ≡ numberOf (listedInto (series (bodyOf moon) start (now (coefs .entry))) (length (now (marks .entry)))) ⌝ }
+    ensures { λ r. ⌜ now (answer .exit) ≡ recordOf (listedInto (series (bodyOf moon) start (now (coefs .entry))) (length (now (marks .entry)))) countNumbers ⌝ }
+    ensures { λ r. ⌜ now (marks .exit) ≡ writtenInto (listedInto (series (bodyOf moon) start (now (coefs .entry))) (length (now (marks .entry)))) (wordsListed (series (bodyOf moon) start (now (coefs .entry)))) (now (marks .entry)) ⌝ }
+{
+    let listed = walk::list_marks(body_of(moon), Second(start), coefs, marks);
+    record::tell(record::list_record(listed), answer)
+}
+
 // Whether a build takes its inputs.
 #[no_mangle]
 pub extern "C" fn hzk_judge_inputs(

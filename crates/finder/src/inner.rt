@@ -2,23 +2,10 @@
 use series::Body;
 use times::Second;
 ghost use mathlib.Core.Path.{_≡_};
-ghost use Prim.Native.Nat.{_<_};
-ghost use lib.IntN.{pos};
 ghost use lib.ListN.{length};
-ghost use Rattle.series.specs.Bodies.{numbers};
 ghost use Rattle.series.specs.Series.{series, InSpan};
 ghost use Rattle.series.specs.Acceptance.{Accepted};
 ghost use Rattle.marks.specs.Listed.{listedMarks, reachedAt, firstReached, lastReached};
-
-// How many units a mark is.
-pub fn mark_size(body: Body) -> i64
-    ensures { λ r. ⌜ r ≡ pos (numbers body .markSize) ⌝ }
-{
-    match body {
-        Body::Sun => 540000000,
-        Body::Moon => 3240000000,
-    }
-}
 
 // How many marks the value at a second has reached. Each body divides by a constant.
 pub fn index_at(body: Body, start: Second, coefs: &[i64], second: Second) -> i64

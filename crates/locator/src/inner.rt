@@ -1,8 +1,8 @@
 // The second of a listed mark by its index, and the k-th listed mark.
 use crate::looks;
 use crate::looks::Looked;
+use acceptance::inner::mark_size;
 use finder::inner::first_reached;
-use finder::inner::mark_size;
 use marks::ListedMark;
 use series::Body;
 use times::Second;

@@ -4,17 +4,17 @@
 use mathlib.Core.Path.{_≡_, refl}
 use mathlib.Core.List.{List, [], _∷_, _++_}
 use mathlib.Core.Logic.{_↔_}
-use Prim.Native.Nat.{ℕ, _*_, _≤_}
+use Prim.Native.Nat.{ℕ, _*_, _≤_, _<_}
 use native.Mathlib.Omega.{arith}
-use borrow.Author.Tests.{le-ltb}
+use borrow.Author.Tests.{lt-ltb, le-ltb}
 use lib.IntN.{ℤ, pos, _+ℤ_, _-ℤ_}
 use lib.Signed.{_≤ℤ_, _<ℤ_}
 use lib.ListN.{length, drop}
 use Rattle.whole.specs.Distance.{distanceFrom}
-use Rattle.refusals.specs.Verdict.{answered}
+use Rattle.refusals.specs.Verdict.{answered, refused}
 use Rattle.series.specs.Bodies.{numbers}
 use Rattle.series.specs.Series.{Series, InSpan, lastSecond, valueAt}
-use Rattle.series.specs.Acceptance.{Accepted}
+use Rattle.series.specs.Acceptance.{Accepted, seriesJudged}
 use Rattle.series.specs.Theorems.{accepted-rises, accepted-tracks}
 use Rattle.series.specs.theory.Span.{span-ordered}
 use Rattle.marks.specs.Crossings.{marked, InTimeOrder, numbered}
@@ -80,6 +80,14 @@ module _ (s : Series) (e : Accepted s) where
       let enough : length (markWords (listedMarks s)) ≤ length out = omega arith in
       rw (e, le-ltb _ _ enough, size) (refl, refl)
 
+  -- with less room it is refused by 12, and nothing is written
+  pub without-room-is-12 : (out : List ℤ) → length out < 2 * length (listedMarks s) →
+      (listedInto s (length out) ≡ refused 12 0) × (writtenInto (listedInto s (length out)) (wordsListed s) out ≡ out)
+  without-room-is-12 out short =
+      let size = words-length (listedMarks s) in
+      let less : length out < length (markWords (listedMarks s)) = omega arith in
+      rw (e, lt-ltb _ _ less) (refl, refl)
+
   -- ---- for callers of the locator
 
   -- the listed marks are those of the indices after the first second's, up to the last second's, each at the second that the locator gives
@@ -94,6 +102,11 @@ module _ (s : Series) (e : Accepted s) where
 
   pub later-marks-are-later : (j k : ℤ) → firstReached s <ℤ j → j <ℤ k → k ≤ℤ lastReached s → secondOfMark s j <ℤ secondOfMark s k
   later-marks-are-later = seconds-rise (accepted-rises s e) (span-ordered s e)
+
+-- a series that is refused is not listed, whatever the room
+pub refused-is-not-listed : (s : Series) (number segment : ℕ) (out : List ℤ) → seriesJudged s ≡ refused number segment →
+    (listedInto s (length out) ≡ refused number segment) × (writtenInto (listedInto s (length out)) (wordsListed s) out ≡ out)
+refused-is-not-listed s number segment out e = rw e (refl, refl)
 
 -- and nothing else is listed: an answer tells that the series is accepted, how many marks it lists, and that there was room
 pub listed-only-when : (s : Series) (room n : ℕ) → listedInto s room ≡ answered n → Answered s room n

@@ -75,3 +75,11 @@ word-put {A} l part at i d {now} h room e =
     ∙ ap₂ (λ (k : ℕ) (x : List A). placed (at + k) (word ∷ []) x) (sym long) e
     ∙ placed-both l (take i part) at (word ∷ []) (omega (arith, long))
     ∙ ap (λ (x : List A). placed at x l) (sym (ap (λ (k : ℕ). take k part) next ∙ take-suc part i d h))
+
+-- two words, one after the other
+pub two-put : {A : Type 0} (l : List A) (at : ℕ) (x y : A) → at + 2 ≤ length l → set (set l at x) (at + 1) y ≡ placed at (x ∷ y ∷ []) l
+two-put {A} l at x y room =
+    let part : List A = x ∷ y ∷ [] in
+    let here : at + 0 ≡ at = omega arith in
+    let first : set l at x ≡ placed at (take 1 part) l = ap (λ (k : ℕ). set l k x) (sym here) ∙ word-put l part at 0 x (omega arith) room (placed-none l at) in
+    word-put l part at 1 x (omega arith) room first

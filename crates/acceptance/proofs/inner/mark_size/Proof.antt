@@ -1,11 +1,11 @@
--- `finder::inner::mark_size` meets its contract. Assumes nothing.
+-- `acceptance::inner::mark_size` meets its contract. Assumes nothing.
 use mathlib.Core.Path.{sym, ap}
 use lib.IntN.{ℤ, pos}
 use borrow.Author.Needs.{needs}
 use Rattle.series.specs.declared.Body.{Body}
 use Rattle.series.specs.Bodies.{numbers}
-use Rattle.finder.proofs.inner.mark_size.Statement.{statement}
-use Rattle.finder.proofs.inner.mark_size.Tie as tie
+use Rattle.acceptance.proofs.inner.mark_size.Statement.{statement}
+use Rattle.acceptance.proofs.inner.mark_size.Tie as tie
 
 abbrev size : Body → ℤ
 size body = pos (numbers body .markSize)
