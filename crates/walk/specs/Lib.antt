@@ -1,2 +1,2 @@
 pub mod Visits
-pub mod Turns
+pub mod theory

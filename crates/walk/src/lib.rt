@@ -1,5 +1,5 @@
 // The plain walk: the marks of a series, by visiting every second of its span. Of the finder it knows nothing; they share what judges a series and what gives its
-// value at a second. That both give one list is `walk-is-finder` (`engines`).
+// value at a second. That both give the same is `walk-is-finder` (`engines/specs/WalkIsFinder.antt`).
 use acceptance::inner::last_second;
 use acceptance::inner::mark_size;
 use marks::ListAnswer;
@@ -27,7 +27,7 @@ fn reached_at(body: Body, start: Second, coefs: &[i64], second: i64) -> i64
     whole::inner::floor_div(value, mark_size(body))
 }
 
-// How many seconds have reached more marks than the second before.
+// How many seconds have reached more marks than the second before: in both loops, `before` has reached `reached`.
 fn count(body: Body, start: Second, coefs: &[i64]) -> usize
     requires { ⌜ Accepted (series body (start .0) (now coefs)) ⌝ }
     ensures { λ r. ⌜ r ≡ length (listedMarks (series body (start .0) (now (coefs .entry)))) ⌝ }

@@ -81,6 +81,13 @@ pub distances-add : {a b c : ℤ} → a ≤ℤ b → b ≤ℤ c → distanceFrom
 distances-add {a} {b} {c} h k =
     omega (ℤ-rules, lies-after h, lies-after k, lies-after (≤-trans h k), parts-add a (pos (distanceFrom a b)), parts-add b (pos (distanceFrom b c)), parts-add a (pos (distanceFrom a c)))
 
+-- from one further on it is one less far
+pub one-nearer : {a b : ℤ} → a <ℤ b → distanceFrom a b ≡ suc (distanceFrom (a +ℤ pos 1) b)
+one-nearer {a} {b} h =
+    let left = distanceFrom (a +ℤ pos 1) b in
+    let next : (a +ℤ pos 1) ≤ℤ b = omega (ℤ-rules, parts-add a (pos 1)) in
+    distance-of a b (suc left) (omega (ℤ-rules, lies-after next, parts-add a (pos 1), parts-add (a +ℤ pos 1) (pos left), parts-add a (pos (suc left))))
+
 pub distance-positive : {a b : ℤ} → a <ℤ b → 0 < distanceFrom a b
 distance-positive {a} {b} h = omega (ℤ-rules, lies-after (<→≤ h), parts-add a (pos (distanceFrom a b)))
 

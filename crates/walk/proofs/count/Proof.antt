@@ -1,12 +1,11 @@
 -- `walk::count` meets its contract. The invariant: the marks counted so far and those of the rest are all (`Counted`); the measure is the seconds that are left. In the
 -- needs, `start` is the function's entry, `loop` the loop's head and `turn` a turn's beginning. Assumes nothing.
 use mathlib.Core.Path.{_≡_, _∙_}
-use Prim.Native.Nat.{ℕ, _+_, _≤_, _<_}
+use Prim.Native.Nat.{_+_, _<_}
 use native.Mathlib.Omega.{arith}
 use borrow.Author.Needs.{needs}
 use lib.IntN.{ℤ, pos, _+ℤ_}
 use lib.Signed.{_<ℤ_}
-use lib.ListN.{length}
 use mir.Syntax.{w64}
 use mir.Val.{SFits, ofZ, toZ}
 use mir.Facts.{toZ-ofZ}
@@ -15,15 +14,11 @@ use Rattle.whole.specs.Solver.{lt-yes, lt-no}
 use Rattle.whole.specs.Distance.{distanceFrom}
 use Rattle.series.specs.Series.{Series, series, lastSecond}
 use Rattle.series.specs.Acceptance.{Accepted}
-use Rattle.series.specs.theory.Span.{start-in-span, second-fits, span-few}
-use Rattle.marks.specs.Listed.{listedMarks, reachedAt}
-use Rattle.walk.specs.Turns.{Counted, counted-none, next-in-span, falls, counted-more, counted-same, counted-all, marks-few}
+use Rattle.series.specs.theory.Span.{start-in-span, second-fits}
+use Rattle.marks.specs.Listed.{reachedAt}
+use Rattle.walk.specs.theory.Turns.{Counted, counted-none, next-in-span, falls, counted-more, counted-same, counted-all, marks-few}
 use Rattle.walk.proofs.count.Statement.{statement}
 use Rattle.walk.proofs.count.Tie as tie
-use Rattle.walk.proofs.count.Reads as reads
-use Rattle.walk.proofs.count.Lts as lts
-use Rattle.acceptance.proofs.inner.last_second.Reads as last-second-reads
-use Rattle.walk.proofs.reached_at.Reads as reached-at-reads
 
 abbrev Inv-loop : tie.InvT-loop
 Inv-loop body start coefs end before₀ reached₀ marks₀ before reached marks = Counted (series body (start .0) coefs) (toZ w64 before) (toZ w64 reached) marks

@@ -1,10 +1,8 @@
 -- `walk::list_marks` meets its contract: each return is one of the three theorems on what a listing answers and leaves. Assumes nothing.
-use mathlib.Core.Path.{_≡_, sym, ap, _∙_}
-use mathlib.Core.List.{List}
+use mathlib.Core.Path.{sym, ap, _∙_}
 use Prim.Native.Nat.{_*_, _≤_}
 use native.Mathlib.Omega.{arith}
 use borrow.Author.Needs.{needs}
-use lib.IntN.{ℤ}
 use lib.ListN.{length}
 use Rattle.refusals.specs.Verdict.{answered, paperCheck, accepted-is}
 use Rattle.series.specs.Series.{Series, series}

@@ -19,13 +19,9 @@ use Rattle.series.specs.Acceptance.{Accepted}
 use Rattle.series.specs.theory.Span.{start-in-span, second-fits}
 use Rattle.marks.specs.Listed.{listedMarks, reachedAt}
 use Rattle.marks.specs.Words.{markWords}
-use Rattle.walk.specs.Turns.{Written, written-none, next-in-span, falls, room-for-one, written-more, written-same, written-all}
+use Rattle.walk.specs.theory.Turns.{Written, written-none, next-in-span, falls, room-for-one, written-more, written-same, written-all}
 use Rattle.walk.proofs.write.Statement.{statement}
 use Rattle.walk.proofs.write.Tie as tie
-use Rattle.walk.proofs.write.Reads as reads
-use Rattle.walk.proofs.write.Lts as lts
-use Rattle.acceptance.proofs.inner.last_second.Reads as last-second-reads
-use Rattle.walk.proofs.reached_at.Reads as reached-at-reads
 
 abbrev Inv-loop : tie.InvT-loop
 Inv-loop body start coefs out₀ end before₀ reached₀ at₀ out before reached at =

@@ -1,16 +1,15 @@
--- What the two loops of the walk hold, how they start, one turn and their end: the marks counted so far and those of the rest are all; the words written so far, with
--- those of the rest put behind them, are what is wanted. Assumes nothing.
-use mathlib.Core.Path.{_≡_, refl, sym, ap, _∙_}
+-- What the two loops of the walk hold: how they start, one turn, and how they end. Assumes nothing.
+use mathlib.Core.Path.{_≡_, sym, ap, _∙_}
 use mathlib.Core.List.{List, [], _∷_, _++_}
 use Prim.Native.Nat.{ℕ, _+_, _*_, _≤_, _<_}
 use native.Mathlib.Omega.{arith}
 use native.Mathlib.Nat.{zero-add}
 use lib.IntN.{ℤ, pos, _+ℤ_}
 use lib.Signed.{_≤ℤ_, _<ℤ_}
-use lib.ListN.{length, take, drop, set}
+use lib.ListN.{length, drop, set}
 use Rattle.whole.specs.Parts.{ℤ-rules, parts-add}
 use Rattle.whole.specs.Lists.{placed, placed-none, placed-both, placed-length, two-put}
-use Rattle.whole.specs.Distance.{distanceFrom}
+use Rattle.whole.specs.Distance.{distanceFrom, one-nearer}
 use Rattle.series.specs.Bodies.{numbers}
 use Rattle.series.specs.Series.{Series, InSpan, valueAt, lastSecond}
 use Rattle.series.specs.Acceptance.{Accepted}
@@ -21,7 +20,7 @@ use Rattle.marks.specs.Listed.{marksBetween, listedMarks, reachedAt}
 use Rattle.marks.specs.Words.{markWords}
 use Rattle.marks.specs.theory.StretchLaws.{few}
 use Rattle.marks.specs.theory.Words.{words-length}
-use Rattle.walk.specs.Visits.{nearer, next-listed, next-not-listed, over}
+use Rattle.walk.specs.Visits.{next-listed, next-not-listed, over}
 
 -- where the walk stands: at a second of the span, knowing how many marks are reached there
 pub record Standing (s : Series) (second reached : ℤ) : Type 0 where
@@ -32,10 +31,12 @@ pub record Standing (s : Series) (second reached : ℤ) : Type 0 where
 abbrev pub rest : Series → ℤ → List Mark
 rest s second = marksBetween s second (lastSecond s)
 
+-- what the first loop holds there: the marks so far and those of the rest are all
 pub record Counted (s : Series) (second reached : ℤ) (count : ℕ) : Type 0 where
   pub stands : Standing s second reached
   pub all : count + length (rest s second) ≡ length (listedMarks s)
 
+-- what the second holds: the words so far end at `end`, and with those of the rest put behind them the slice is what is wanted
 pub record Written (s : Series) (second reached : ℤ) (end : ℕ) (out wanted : List ℤ) : Type 0 where
   pub stands : Standing s second reached
   pub room : end + length (markWords (rest s second)) ≤ length out
@@ -64,7 +65,7 @@ module _ {s : Series} {before reached : ℤ} (stands : Standing s before reached
       record { from-start = omega ℤ-rules; to-last = omega ℤ-rules }
 
   pub falls : distanceFrom (before +ℤ pos 1) (lastSecond s) < distanceFrom before (lastSecond s)
-  falls = let n = nearer (valueAt s) (numbers (s .body) .markSize) left in omega arith
+  falls = let n = one-nearer left in omega arith
 
   module _ {index : ℤ} (knows : index ≡ reachedAt s (before +ℤ pos 1)) where
     stands-next : Standing s (before +ℤ pos 1) index
