@@ -1,5 +1,5 @@
 -- Document 02, order 7: the plain walk gives "the same list, the same refusals and the same written places as the finder". Spoken of are the contracts of the two functions
--- themselves, what each is proved to show when it returns. Assumes nothing.
+-- themselves, what each is proved to show when it returns: `Reads` has them, made from the sources alone, so no proof is brought in here. Assumes nothing.
 use mathlib.Core.Path.{_≡_, refl, subst}
 use mathlib.Core.List.{List}
 use lib.IntN.{ℤ}
