@@ -103,8 +103,11 @@ def listing(data):
                 held = [o for d, o in entries if 1000 * (86400 * d + o) <= tai]
                 if not held:
                     raise Refused(7)
-                t = datetime.datetime(2000, 1, 1) + datetime.timedelta(milliseconds=tai - 1000 * held[-1] + 28800000)
-                lines.append('%s %d %s.%03d\n' % (letter, j % circle, t.strftime('%Y-%m-%d %H:%M:%S'), t.microsecond // 1000))
+                # inside an inserted second the clock stands at the second before, and says 60
+                extra = any(1000 * (86400 * d + o - 1) <= tai < 1000 * (86400 * d + o) for d, o in entries[1:])
+                t = datetime.datetime(2000, 1, 1) + datetime.timedelta(milliseconds=tai - 1000 * held[-1] + 28800000 - 1000 * extra)
+                second = 60 if extra else t.second
+                lines.append('%s %d %s:%02d.%03d\n' % (letter, j % circle, t.strftime('%Y-%m-%d %H:%M'), second, t.microsecond // 1000))
         return ''.join(lines).encode()
     except Refused as r:
         return b'R %d\n' % r.args[0]
@@ -128,6 +131,19 @@ def random_series(rng, half, most):
     return [len(cs), start] + [x for c in cs for x in c]
 
 
+def about_an_insertion(rng, leap, series, body):
+    """The series begun earlier or later, so that one of its marks falls inside the second before a leap entry, or beside it; as it is, where that cannot be."""
+    _, half, mark, most, _ = body
+    try:
+        found = list(marks(series[1], judge((series[1], series[2:]), half, most), half, mark))
+    except Refused:
+        return series
+    i = rng.randrange(len(leap) // 2)
+    second = 86400 * leap[2 * i] + leap[2 * i + 1] + 32 + rng.choice((-1, 0, 0, 1))
+    start = series[1] + second - rng.choice(found)[1] if found else series[1]
+    return [series[0], start] + series[2:] if abs(start) <= 10 ** 10 else series
+
+
 def random_input(rng):
     day, offset, leap = rng.randint(-120000, 5000), rng.randint(0, 40), []
     for _ in range(rng.choice((1, 2, 10, 28, 64))):
@@ -135,7 +151,9 @@ def random_input(rng):
         day, offset = day + rng.randint(1, 900), offset + 1
     if rng.random() < 0.05:
         leap[rng.randrange(len(leap))] += rng.choice((-1, 1, 10 ** 9))
-    words = [len(leap) // 2] + leap + random_series(rng, 1382400, 2000) + random_series(rng, 172800, 16000)
+    both = [random_series(rng, half, most) for _, half, _, most, _ in BODIES]
+    both = [about_an_insertion(rng, leap, series, body) if rng.random() < 0.5 else series for series, body in zip(both, BODIES)]
+    words = [len(leap) // 2] + leap + both[0] + both[1]
     if rng.random() < 0.05:
         words[rng.choice((0, 1 + len(leap)))] = rng.choice((-1, 0, 1, 2 ** 62, 2 ** 63 - 1, -2 ** 63))
     data = struct.pack('<%dq' % len(words), *words)
@@ -170,7 +188,7 @@ def main():
                 kept = os.path.join(os.path.dirname(program[-1]), 'differs.in')
                 open(kept, 'wb').write(data)
                 sys.exit('input %d differs; it is kept in %s' % (i, kept))
-            kind = expected.decode().strip() if expected.startswith(b'R') else 'listed'
+            kind = expected.decode().strip() if expected.startswith(b'R') else 'listed, with a second 60' if b':60.' in expected else 'listed'
             seen[kind] = seen.get(kind, 0) + 1
         print('all the same:', ', '.join('%s %d' % x for x in sorted(seen.items())))
     elif len(sys.argv) == 2:

@@ -54,7 +54,7 @@ int64_t hzk_day_of(int64_t year, int64_t month, int64_t day, hzk_answer *answer)
 /* Whether a leap table keeps its rule. 1. */
 int64_t hzk_judge_leap_table(const int64_t *leap, size_t leap_words, hzk_answer *answer);
 
-/* The UTC+8 millisecond of a TDB second: milliseconds. 1, 6, 7. */
+/* The UTC+8 millisecond of a TDB second: milliseconds. The count cannot say an inserted leap second: it is that of the second after it. 1, 6, 7. */
 int64_t hzk_milli_of(const int64_t *leap, size_t leap_words, int64_t second, hzk_answer *answer);
 
 /* The UTC+8 day of a TDB second: day. 1, 6, 7. */
@@ -63,7 +63,7 @@ int64_t hzk_day_of_second(const int64_t *leap, size_t leap_words, int64_t second
 /* The day that a UTC+8 millisecond lies in: day. Answers for every number. */
 int64_t hzk_day_of_milli(int64_t milli, hzk_answer *answer);
 
-/* The UTC+8 date and time of a TDB second: year, month, day, hour, minute, second, millisecond. 1, 6, 7. */
+/* The UTC+8 date and time of a TDB second: year, month, day, hour, minute, second, millisecond. Inside an inserted leap second the second is 60. 1, 6, 7. */
 int64_t hzk_shown(const int64_t *leap, size_t leap_words, int64_t second, hzk_answer *answer);
 
 /* ---- series and marks */

@@ -153,6 +153,45 @@ static void clocks(void) {
     expect("shown by no table", hzk_shown(NO_WORDS, 0, fresh()), REFUSED(1));
 }
 
+/* ---- inserted seconds: 2016-12-31 23:59:60 UTC, and both sides of it */
+#define REAL_LEAP -365, 32, 2192, 33, 3288, 34, 4565, 35, 5660, 36, 6210, 37
+
+/* A clock that ticks: whether every second of four days and a minute is shown as the tick after the one before. An entry begins on the UTC days 0, 1, 2, 4, 5, 6, 8, .., at 08:00 in
+   UTC+8, and each but the first inserts a second before it. */
+static bool ticks(void) {
+    static int64_t table[128];
+    for (int64_t i = 0; i < 64; i++) table[2 * i] = i + i / 3, table[2 * i + 1] = 32 + i;
+    int64_t day = 0, hour = 8, minute = 0, second = 0;
+    for (int64_t tdb = 65; tdb < 65 + 4 * 86400 + 60; tdb++) {
+        hzk_answer date, shown, of;
+        hzk_date_of(day, &date);
+        if (hzk_shown(table, 128, tdb, &shown) != 0 || hzk_day_of_second(table, 128, tdb, &of) != 0) return false;
+        const int64_t wanted[] = {date.value[0], date.value[1], date.value[2], hour, minute, second, 816};
+        if (memcmp(shown.value, wanted, sizeof wanted) != 0 || of.value[0] != day) return false;
+        int64_t last = hour == 7 && minute == 59 && day % 4 != 3 ? 60 : 59;
+        if (second++ < last) continue;
+        second = 0;
+        if (++minute < 60) continue;
+        minute = 0;
+        if (++hour < 24) continue;
+        hour = 0, day++;
+    }
+    return true;
+}
+
+static void inserted(void) {
+    expect("shown before an inserted second", hzk_shown(LIST(REAL_LEAP), 536544068, fresh()), ANSWERED(2017, 1, 1, 7, 59, 59, 816));
+    expect("shown inside it", hzk_shown(LIST(REAL_LEAP), 536544069, fresh()), ANSWERED(2017, 1, 1, 7, 59, 60, 816));
+    expect("shown after it", hzk_shown(LIST(REAL_LEAP), 536544070, fresh()), ANSWERED(2017, 1, 1, 8, 0, 0, 816));
+    expect("millisecond before an inserted second", hzk_milli_of(LIST(REAL_LEAP), 536544068, fresh()), ANSWERED(536572799816));
+    expect("millisecond inside it", hzk_milli_of(LIST(REAL_LEAP), 536544069, fresh()), ANSWERED(536572800816));
+    expect("millisecond after it", hzk_milli_of(LIST(REAL_LEAP), 536544070, fresh()), ANSWERED(536572800816));
+    expect("day inside an inserted second", hzk_day_of_second(LIST(REAL_LEAP), 536544069, fresh()), ANSWERED(6210));
+    expect("shown in the second before the first entry", hzk_shown(LIST(6210, 37), 536544069, fresh()), REFUSED(7));
+    expect("shown in the first second of the first entry", hzk_shown(LIST(6210, 37), 536544070, fresh()), ANSWERED(2017, 1, 1, 8, 0, 0, 816));
+    check("every second of four days and a minute, as a clock ticks", ticks());
+}
+
 /* ---- series and marks: document 01's Sun and Moon */
 #define SUN SEGMENT(552960000, 552960000, 0)
 #define MOON SEGMENT(4103999999, 864000000, 0)
@@ -538,6 +577,7 @@ int main(int argc, char **argv) {
     }
     dates();
     clocks();
+    inserted();
     series();
     months();
     almanac();

@@ -36,6 +36,16 @@ SUN = series(0, segment(552960000, 552960000))
 MOON = series(0, segment(4103999999, 864000000))
 
 
+def crossing(second, sun, moon):
+    """A Sun and a Moon that rise straight by 400 and 5,000 units a second, and cross mark 0 so many seconds after the second."""
+    return series(second + sun - 1382400, segment(0, 552960000)) + series(second + moon - 172800, segment(0, 864000000))
+
+
+# 2016-12-31 23:59:60 UTC begins at TAI second 536,544,036, and TDB second 536,544,069 lies inside it
+REAL_TABLE = leap((-365, 32), (2192, 33), (3288, 34), (4565, 35), (5660, 36), (6210, 37))
+INSERTED = 536544069
+
+
 def words(*parts):
     flat = [w for p in parts for w in p]
     return struct.pack('<%dq' % len(flat), *flat)
@@ -52,6 +62,13 @@ CASES = [
     ('longest', LONGEST),
     ('one_mark_short', words(TABLE, series(0, segment(0, 539999999)), series(0, segment(-3239999999, 864000000)))),
     ('no_marks', words(TABLE, series(0, segment(200000000, 139000000)), series(0, segment(1000000000, 18000000)))),
+    # marks inside an inserted second, in the second before it and in the one after it; and about the first entry, which inserts nothing that is known
+    ('inserted_second', words(REAL_TABLE, crossing(INSERTED, 0, 0))),
+    ('second_before', words(REAL_TABLE, crossing(INSERTED, -1, -1))),
+    ('second_after', words(REAL_TABLE, crossing(INSERTED, 1, 1))),
+    ('sun_inside_moon_after', words(REAL_TABLE, crossing(INSERTED, 0, 1))),
+    ('first_entry', words(leap((6210, 37)), crossing(INSERTED, 1400000, 1))),
+    ('r7_second_before_the_first_entry', words(leap((6210, 37)), crossing(INSERTED, 1400000, 0))),
     # 13: too long by two words behind a lawful input, by one byte, not in whole words, too short, left over, negative counts, counts that would overflow
     ('r13_two_words_more', LONGEST + words([0, 0])),
     ('r13_65536_bytes', LONGEST + words([0])),

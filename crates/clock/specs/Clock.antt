@@ -1,8 +1,8 @@
--- From a TDB second to local milliseconds, days and shown times (document 01, "Three counts of time"), for any table, second and zone: what is refused
--- is judged before (`Answers`). The zone is in minutes; UTC+8 is 480. Assumes nothing: these are definitions.
-use Prim.Native.Nat.{_/_, _%_}
+-- From a TDB second to local milliseconds, days and shown times (document 01, "Three counts of time", as order 2 amends it), for any table, second and zone: what is
+-- refused is judged before (`Answers`). The zone is in minutes; UTC+8 is 480. Assumes nothing: these are definitions.
+use Prim.Native.Nat.{ℕ, _/_, _%_}
 use mathlib.Core.Path.{_≡_}
-use mathlib.Core.Bool.{Bool, true, false, not}
+use mathlib.Core.Bool.{Bool, true, false, not, cond}
 use mathlib.Core.List.{List}
 use lib.IntN.{ℤ, pos, negsuc, _+ℤ_, _-ℤ_, _*ℤ_}
 use Rattle.whole.specs.Floor.{floorDiv, floorMod}
@@ -14,7 +14,7 @@ use Rattle.times.specs.declared.Milli.{Milli}
 use Rattle.dates.specs.Calendar.{dateFor}
 use Rattle.clock.specs.declared.Reading.{Reading}
 use Rattle.clock.specs.declared.ShownTime.{ShownTime}
-use Rattle.clock.specs.Leap.{leapLawful, offset, holds, entryUsed}
+use Rattle.clock.specs.Leap.{leapLawful, offset, holds, entryUsed, inserted}
 
 -- the zone of UTC+8, in minutes
 abbrev pub utc8 : ℤ
@@ -32,39 +32,51 @@ tai s = pos 1000 *ℤ s .0 -ℤ pos 32184
 unfoldable pub early : List ℤ → Second → Bool
 early leap s = not (holds leap (tai s) 0)
 
--- ---- one reading of the clock: the count in the zone, and whether the second is an inserted one, which is never said: it is shown as the second after it
+-- ---- one reading of the clock: the count in the zone, and whether the second is an inserted one. The count cannot say an inserted second: it says the one after it
 -- the local millisecond of a TAI millisecond under an offset
 unfoldable pub localMilli : ℤ → ℤ → ℤ → Milli
 localMilli t o zone = record { 0 = t -ℤ pos 1000 *ℤ o +ℤ pos 60000 *ℤ zone }
 
 unfoldable pub reading : List ℤ → Second → ℤ → Reading
-reading leap s zone = record { milli = localMilli (tai s) (offset leap (entryUsed leap (tai s))) zone; inserted = false }
+reading leap s zone = record { milli = localMilli (tai s) (offset leap (entryUsed leap (tai s))) zone; inserted = inserted leap (tai s) }
 
 -- ---- what is read off it
 unfoldable pub milliIn : List ℤ → Second → ℤ → Milli
 milliIn leap s zone = reading leap s zone .milli
 
+-- the count off which day and time are read: inside an inserted second it is a second less, so that it lies in the minute that this second ends
+unfoldable pub readOff : Reading → Milli
+readOff r = record { 0 = cond (r .inserted) (r .milli .0 -ℤ pos 1000) (r .milli .0) }
+
+unfoldable pub countIn : List ℤ → Second → ℤ → Milli
+countIn leap s zone = readOff (reading leap s zone)
+
 -- the day of a millisecond, rounded down
 unfoldable pub dayOfMilli : Milli → Day
 dayOfMilli m = record { 0 = floorDiv (m .0) 86400000 }
 
+-- the day is that of the time shown: an inserted second belongs to the day that it ends
 unfoldable pub dayIn : List ℤ → Second → ℤ → Day
-dayIn leap s zone = dayOfMilli (milliIn leap s zone)
+dayIn leap s zone = dayOfMilli (countIn leap s zone)
+
+-- the second that is said when so many milliseconds of the day are over; an inserted one is 60
+unfoldable pub secondSaid : Bool → ℕ → ℕ
+secondSaid inserted rest = cond inserted 60 (rest / 1000 % 60)
 
 -- date, hour, minute, second and millisecond
-unfoldable pub shownOfMilli : Milli → ShownTime
-shownOfMilli m =
-    let rest = floorMod (m .0) 86400000 in
+unfoldable pub shownBy : Reading → ShownTime
+shownBy r =
+    let rest = floorMod (readOff r .0) 86400000 in
     record {
-      date = dateFor (dayOfMilli m .0);
+      date = dateFor (dayOfMilli (readOff r) .0);
       hour = rest / 3600000;
       minute = rest / 60000 % 60;
-      second = rest / 1000 % 60;
+      second = secondSaid (r .inserted) rest;
       millisecond = rest % 1000;
     }
 
 unfoldable pub shownIn : List ℤ → Second → ℤ → ShownTime
-shownIn leap s zone = shownOfMilli (milliIn leap s zone)
+shownIn leap s zone = shownBy (reading leap s zone)
 
 -- ---- what is known once table and second are judged: what the inner functions ask. The zones -720 to 840 are within 1,000 minutes
 pub record Readable (leap : List ℤ) (s : Second) (zone : ℤ) : Type 0 where

@@ -1,22 +1,26 @@
 -- What document 01's numbers and orders on the clock are, each a computed fact on both sides, and all of them checked at once; its starred example stands in
 -- the crate `examples`. Assumes nothing.
 use Prim.Native.Nat.{ℕ, zero, suc, _^_, _-_}
-use mathlib.Core.Bool.{Bool, false, not, _&&_}
-use mathlib.Core.List.{List, [], _∷_}
+use mathlib.Core.Bool.{Bool, true, false, not, _&&_}
+use mathlib.Core.List.{List, [], _∷_, _++_}
 use lib.Dec.{T, eqb}
 use lib.IntN.{ℤ, pos, negsuc}
 use Rattle.refusals.specs.Verdict.{Verdict, answered, refused}
 use Rattle.refusals.specs.Evaluated.{isAccepted, isRefused}
 use Rattle.whole.specs.Evaluated.{same, all}
 use Rattle.whole.specs.Floor.{floorDiv, floorMod}
-use Rattle.whole.specs.Below.{every, lastBelow}
+use Rattle.whole.specs.Below.{every, any, lastBelow}
+use Rattle.whole.specs.Order.{firstBy}
 use Rattle.times.specs.declared.Day.{Day}
 use Rattle.times.specs.declared.Second.{Second}
 use Rattle.times.specs.declared.Milli.{Milli}
 use Rattle.dates.specs.Calendar.{leapYear, leapYearsTo, newYear, monthLengths, yearOrNext, yearOf, monthsOver, dateInYear, dateFor}
+use Rattle.dates.specs.Order.{dateFirst}
+use Rattle.clock.specs.declared.Reading.{Reading}
 use Rattle.clock.specs.declared.ShownTime.{ShownTime}
-use Rattle.clock.specs.Leap.{firstEntry, nextEntry, goodEntry, wholePairs, leapLawful, holdsFrom, holds, entryUsed}
-use Rattle.clock.specs.Clock.{convertible, tai, early, localMilli, reading, milliIn, dayOfMilli, shownOfMilli, dayIn, shownIn}
+use Rattle.clock.specs.Leap.{firstEntry, nextEntry, goodEntry, wholePairs, leapLawful, holdsFrom, holds, entryUsed, insertedBy, inserted}
+use Rattle.clock.specs.Clock.{utc8, convertible, tai, early, localMilli, reading, milliIn, readOff, countIn, dayOfMilli, dayIn, secondSaid, shownBy, shownIn}
+use Rattle.clock.specs.Order.{shownFirst}
 use Rattle.clock.specs.Answers.{leapJudged, clockJudged, milliOf, dayOfSecond, shownOf}
 
 abbrev pub second : ℤ → Second
@@ -24,6 +28,13 @@ second s = record { 0 = s }
 
 abbrev milli : ℤ → Milli
 milli m = record { 0 = m }
+
+-- a reading of no inserted second, and of one
+abbrev plain : ℤ → Reading
+plain m = record { milli = milli m; inserted = false }
+
+abbrev extra : ℤ → Reading
+extra m = record { milli = milli m; inserted = true }
 
 abbrev isMilli : Verdict Milli → ℤ → Bool
 isMilli (answered m) z = same (m .0) z
@@ -53,6 +64,24 @@ table = negsuc 364 ∷ pos 32 ∷ []
 abbrev longer : List ℤ
 longer = negsuc 364 ∷ pos 32 ∷ pos 2192 ∷ pos 33 ∷ []
 
+-- the table of 2017, when the last second so far was inserted
+abbrev real : List ℤ
+real = longer ++ pos 3288 ∷ pos 34 ∷ pos 4565 ∷ pos 35 ∷ pos 5660 ∷ pos 36 ∷ pos 6210 ∷ pos 37 ∷ []
+
+-- the day of a second by `longer`, and the time shown, in a zone
+abbrev dayThen : ℕ → ℤ → ℤ
+dayThen s zone = dayIn longer (second (pos s)) zone .0
+
+abbrev shownThen : ℕ → ℤ → Verdict ShownTime
+shownThen s zone = answered (shownIn longer (second (pos s)) zone)
+
+-- of two seconds the first is shown first, by `real`, and the second is not
+abbrev rises : ℕ → ℕ → Bool
+rises s s′ =
+    let t = shownIn real (second (pos s)) utc8 in
+    let t′ = shownIn real (second (pos s′)) utc8 in
+    shownFirst t t′ && not (shownFirst t′ t)
+
 -- the earliest table there is
 abbrev earliest : List ℤ
 earliest = negsuc 119999 ∷ pos 0 ∷ []
@@ -62,7 +91,7 @@ abbrev unlawful : List ℤ
 unlawful = pos 0 ∷ pos 1001 ∷ []
 
 unfoldable pub examples : List Bool
-unfolding leapYear leapYearsTo newYear monthLengths yearOrNext yearOf monthsOver dateInYear dateFor floorDiv floorMod firstEntry nextEntry goodEntry every wholePairs leapLawful holdsFrom holds lastBelow entryUsed convertible tai early localMilli reading milliIn dayOfMilli shownOfMilli dayIn shownIn leapJudged clockJudged milliOf dayOfSecond shownOf
+unfolding leapYear leapYearsTo newYear monthLengths yearOrNext yearOf monthsOver dateInYear dateFor floorDiv floorMod firstEntry nextEntry goodEntry every wholePairs leapLawful holdsFrom holds lastBelow entryUsed insertedBy any inserted convertible tai early localMilli reading milliIn readOff countIn dayOfMilli dayIn secondSaid shownBy shownIn firstBy dateFirst shownFirst leapJudged clockJudged milliOf dayOfSecond shownOf
 examples =
     -- the first second of 2000
     isMilli (milliOf table (second (pos 0))) (pos 28735816)
@@ -82,21 +111,65 @@ examples =
     ∷ same (dayOfMilli (milli (pos 86399999)) .0) (pos 0)
     ∷ same (dayOfMilli (milli (pos 86400000)) .0) (pos 1)
     -- both sides of a second, a minute, an hour and a day
-    ∷ isShown (answered (shownOfMilli (milli (pos 999)))) 2000 1 1 0 0 0 999
-    ∷ isShown (answered (shownOfMilli (milli (pos 1000)))) 2000 1 1 0 0 1 0
-    ∷ isShown (answered (shownOfMilli (milli (pos 59999)))) 2000 1 1 0 0 59 999
-    ∷ isShown (answered (shownOfMilli (milli (pos 60000)))) 2000 1 1 0 1 0 0
-    ∷ isShown (answered (shownOfMilli (milli (pos 3599999)))) 2000 1 1 0 59 59 999
-    ∷ isShown (answered (shownOfMilli (milli (pos 3600000)))) 2000 1 1 1 0 0 0
-    ∷ isShown (answered (shownOfMilli (milli (negsuc 0)))) 1999 12 31 23 59 59 999
-    ∷ isShown (answered (shownOfMilli (milli (pos 0)))) 2000 1 1 0 0 0 0
-    -- the instants before, inside and after the inserted second: inside it is shown as the second after it
+    ∷ isShown (answered (shownBy (plain (pos 999)))) 2000 1 1 0 0 0 999
+    ∷ isShown (answered (shownBy (plain (pos 1000)))) 2000 1 1 0 0 1 0
+    ∷ isShown (answered (shownBy (plain (pos 59999)))) 2000 1 1 0 0 59 999
+    ∷ isShown (answered (shownBy (plain (pos 60000)))) 2000 1 1 0 1 0 0
+    ∷ isShown (answered (shownBy (plain (pos 3599999)))) 2000 1 1 0 59 59 999
+    ∷ isShown (answered (shownBy (plain (pos 3600000)))) 2000 1 1 1 0 0 0
+    ∷ isShown (answered (shownBy (plain (negsuc 0)))) 1999 12 31 23 59 59 999
+    ∷ isShown (answered (shownBy (plain (pos 0)))) 2000 1 1 0 0 0 0
+    -- an inserted second is read off the second before, and said as 60: there the minute, the hour and the day end
+    ∷ isShown (answered (shownBy (extra (pos 60816)))) 2000 1 1 0 0 60 816
+    ∷ isShown (answered (shownBy (extra (pos 3600816)))) 2000 1 1 0 59 60 816
+    ∷ isShown (answered (shownBy (extra (pos 816)))) 1999 12 31 23 59 60 816
+    -- the instants before, inside and after the second inserted before 2006: the millisecond count stays as it is, the time shown says 60, the day is one day
+    ∷ isMilli (milliOf longer (second (pos 189388864))) (pos 189417599816)
+    ∷ isMilli (milliOf longer (second (pos 189388865))) (pos 189417600816)
+    ∷ isMilli (milliOf longer (second (pos 189388866))) (pos 189417600816)
     ∷ isShown (shownOf longer (second (pos 189388864))) 2006 1 1 7 59 59 816
-    ∷ isShown (shownOf longer (second (pos 189388865))) 2006 1 1 8 0 0 816
+    ∷ isShown (shownOf longer (second (pos 189388865))) 2006 1 1 7 59 60 816
     ∷ isShown (shownOf longer (second (pos 189388866))) 2006 1 1 8 0 0 816
     ∷ isDay (dayOfSecond longer (second (pos 189388864))) (pos 2192)
     ∷ isDay (dayOfSecond longer (second (pos 189388865))) (pos 2192)
     ∷ isDay (dayOfSecond longer (second (pos 189388866))) (pos 2192)
+    -- in UTC itself it belongs to the day that it ends; a minute east of it the day has begun
+    ∷ isShown (shownThen 189388864 (pos 0)) 2005 12 31 23 59 59 816
+    ∷ isShown (shownThen 189388865 (pos 0)) 2005 12 31 23 59 60 816
+    ∷ isShown (shownThen 189388866 (pos 0)) 2006 1 1 0 0 0 816
+    ∷ same (dayThen 189388865 (pos 0)) (pos 2191)
+    ∷ same (dayThen 189388866 (pos 0)) (pos 2192)
+    ∷ isShown (shownThen 189388865 (pos 1)) 2006 1 1 0 0 60 816
+    ∷ same (dayThen 189388864 (pos 1)) (pos 2192)
+    ∷ same (dayThen 189388865 (pos 1)) (pos 2192)
+    ∷ isShown (shownThen 189388865 (negsuc 719)) 2005 12 31 11 59 60 816
+    ∷ isShown (shownThen 189388865 (pos 345)) 2006 1 1 5 44 60 816
+    -- 2016-12-31 23:59:60 UTC, the second before it and the one after it: each is shown before the next
+    ∷ isShown (shownOf real (second (pos 536544068))) 2017 1 1 7 59 59 816
+    ∷ isShown (shownOf real (second (pos 536544069))) 2017 1 1 7 59 60 816
+    ∷ isShown (shownOf real (second (pos 536544070))) 2017 1 1 8 0 0 816
+    ∷ rises 536544068 536544069
+    ∷ rises 536544069 536544070
+    ∷ rises 536544068 536544070
+    -- each part of a time goes before those behind it: year, month, day, hour, minute, second, millisecond; and no time comes before itself
+    ∷ rises 536515268 536515269
+    ∷ rises 539193669 539193670
+    ∷ rises 536601669 536601670
+    ∷ rises 536547669 536547670
+    ∷ rises 536544129 536544130
+    ∷ shownFirst (shownBy (plain (pos 1999))) (shownBy (plain (pos 2000)))
+    ∷ shownFirst (shownBy (plain (pos 1998))) (shownBy (plain (pos 1999)))
+    ∷ not (shownFirst (shownBy (plain (pos 1999))) (shownBy (plain (pos 1999))))
+    -- inside an inserted second: from a thousand milliseconds before the entry holds, up to the last
+    ∷ not (inserted longer (pos 189388831999))
+    ∷ inserted longer (pos 189388832000)
+    ∷ inserted longer (pos 189388832999)
+    ∷ not (inserted longer (pos 189388833000))
+    -- the first entry inserts nothing: this one holds from TAI second 32
+    ∷ not (inserted (pos 0 ∷ pos 32 ∷ []) (pos 31000))
+    ∷ not (inserted (pos 0 ∷ pos 32 ∷ []) (pos 31999))
+    ∷ inserted (negsuc 0 ∷ pos 31 ∷ pos 0 ∷ pos 32 ∷ []) (pos 31000)
+    ∷ inserted (negsuc 0 ∷ pos 31 ∷ pos 0 ∷ pos 32 ∷ []) (pos 31999)
     -- the entry used, on both sides of the millisecond from which one holds
     ∷ eqb (entryUsed longer (pos 189388832999)) 0
     ∷ eqb (entryUsed longer (pos 189388833000)) 1

@@ -1,14 +1,14 @@
--- The leap table (document 01, "Three counts of time"): its rule, when an entry holds, and the entry used. A table is lent as words, a UTC day and
--- TAI-UTC in seconds in turn. Assumes nothing: these are definitions.
+-- The leap table (document 01, "Three counts of time"): its rule, when an entry holds, the entry used, and the seconds that are inserted. A table is lent as
+-- words, a UTC day and TAI-UTC in seconds in turn. Assumes nothing: these are definitions.
 use Prim.Native.Nat.{ℕ, zero, suc, _+_, _*_, _/_, _%_}
-use mathlib.Core.Bool.{Bool, _&&_}
+use mathlib.Core.Bool.{Bool, false, _&&_}
 use mathlib.Core.List.{List}
-use lib.IntN.{ℤ, pos, negsuc, _+ℤ_, _*ℤ_}
+use lib.IntN.{ℤ, pos, negsuc, _+ℤ_, _-ℤ_, _*ℤ_}
 use lib.Signed.{leZ, ltZ}
 use lib.ListN.{length, getD}
 use lib.Dec.{eqb, leb}
 use Rattle.whole.specs.Tests.{inRange, isExactly}
-use Rattle.whole.specs.Below.{every, lastBelow}
+use Rattle.whole.specs.Below.{every, any, lastBelow}
 
 -- ---- the words
 abbrev pub entries : List ℤ → ℕ
@@ -56,3 +56,13 @@ holds leap t i = leZ (holdsFrom leap i) t
 -- the last entry that holds by TAI millisecond t; 0 where none does, which 7 shuts out
 unfoldable pub entryUsed : List ℤ → ℤ → ℕ
 entryUsed leap t = lastBelow (holds leap t) (entries leap)
+
+-- ---- inserted seconds
+-- TAI millisecond t lies inside the second that entry i inserts, the last one before it holds. The first entry inserts nothing that is known
+unfoldable pub insertedBy : List ℤ → ℤ → ℕ → Bool
+insertedBy leap t zero = false
+insertedBy leap t (suc i) = leZ (holdsFrom leap (suc i) -ℤ pos 1000) t && ltZ t (holdsFrom leap (suc i))
+
+-- and inside one that any entry inserts
+unfoldable pub inserted : List ℤ → ℤ → Bool
+inserted leap t = any (insertedBy leap t) (entries leap)

@@ -1,29 +1,42 @@
--- The laws of the clock, over every lawful table: days never go back as seconds go on (in every zone), an inserted second keeps the day, every
--- converted day has a date, and once the first entry holds it goes on holding. Assumes nothing.
+-- The laws of the clock, over every lawful table: days and shown times never go back as seconds go on (in every zone), an inserted second is shown as the sixtieth of the
+-- minute that it ends and belongs to that minute's day, every converted day has a date, and once the first entry holds it goes on holding. Assumes nothing.
 use Prim.Native.Nat.{ℕ, suc, _<_}
-use mathlib.Core.Path.{_≡_, sym, _∙_}
+use mathlib.Core.Path.{_≡_, sym, ap, _∙_}
 use mathlib.Core.Bool.{true, false}
-use mathlib.Core.List.{List}
+use mathlib.Core.List.{List, [], _∷_}
+use mathlib.Core.Logic.{⊎-elim}
+use native.Mathlib.Omega.{arith}
 use lib.IntN.{ℤ, pos, _+ℤ_, _-ℤ_}
+use lib.Signed.{_≤ℤ_, _<ℤ_}
 use Rattle.whole.specs.Parts.{_⩽_, _≺_}
+use Rattle.whole.specs.Laws.{≤-total, ≤-antisymm}
+use Rattle.whole.specs.Booleans.{not-both}
+use Rattle.whole.specs.Floor.{floorDiv, floorMod, floorDiv-mono}
+use Rattle.whole.specs.Solver.{⇑, ⇓, ring}
 use Rattle.whole.specs.Ranges.{Within, within, bounds}
 use Rattle.refusals.specs.Verdict.{answered, answered-says}
 use Rattle.times.specs.declared.Day.{Day}
+use Rattle.times.specs.declared.Milli.{Milli}
 use Rattle.times.specs.declared.Second.{Second}
 use Rattle.dates.specs.Answers.{hasDate}
-use Rattle.clock.specs.Leap.{leapLawful, entries, holdsFrom, entryUsed}
-use Rattle.clock.specs.Clock.{utc8, convertible, tai, early, reading, milliIn, dayOfMilli, dayIn}
-use Rattle.clock.specs.Answers.{clockJudged, dayOfSecond}
-use Rattle.clock.specs.theory.Used.{used}
+use Rattle.clock.specs.declared.ShownTime.{ShownTime}
+use Rattle.clock.specs.Leap.{leapLawful, entries, day, holdsFrom, entryUsed, inserted}
+use Rattle.clock.specs.Clock.{utc8, convertible, tai, early, reading, milliIn, readOff, countIn, dayOfMilli, dayIn, shownBy, shownIn}
+use Rattle.clock.specs.Order.{shownFirst}
+use Rattle.clock.specs.Answers.{clockJudged, milliOf, dayOfSecond, shownOf}
+use Rattle.clock.specs.theory.Used.{used, holds-on}
+use Rattle.clock.specs.theory.Inserted.{not-yet, none-inserts, by-next}
 use Rattle.clock.specs.theory.Sizes.{reading-has-date}
 use Rattle.clock.specs.theory.Judged.{readable, first-holds, holds-first}
-use Rattle.clock.specs.theory.Days.{tai-goes-on, holds-on, day-goes-on}
-use Rattle.clock.specs.theory.Inserted as inserted
+use Rattle.clock.specs.theory.Counts.{tai-goes-on, count-goes-on}
+use Rattle.clock.specs.theory.Around.{day-stays}
+use Rattle.clock.specs.theory.Around as around
+use Rattle.clock.specs.theory.Shown.{shown-first, not-both-shown-first, not-before-itself, said-before, said-inside}
 
 -- ---- days never go back
 pub days-never-go-back : (w : List ℤ) → leapLawful w ≡ true → (s s′ : Second) → s .0 ⩽ s′ .0 → (zone : ℤ) → dayIn w s zone .0 ⩽ dayIn w s′ zone .0
-unfolding dayIn dayOfMilli milliIn reading
-days-never-go-back w l s s′ h zone = day-goes-on w l zone (tai s) (tai s′) (entryUsed w (tai s)) (entryUsed w (tai s′)) (tai-goes-on s s′ h) (used w (tai s) l) (used w (tai s′) l)
+unfolding dayIn dayOfMilli
+days-never-go-back w l s s′ h zone = floorDiv-mono 86400000 (omega arith) (count-goes-on w l s s′ h zone)
 
 pub answered-days-never-go-back : (w : List ℤ) (s s′ : Second) → s .0 ⩽ s′ .0 → (d d′ : Day) → dayOfSecond w s ≡ answered d → dayOfSecond w s′ ≡ answered d′ → d .0 ⩽ d′ .0
 unfolding dayOfSecond
@@ -33,18 +46,111 @@ answered-days-never-go-back w s s′ h d d′ e e′ =
     let lawful = readable w s utc8 (a .0) (within (search bounds) tt) .lawful-table in
     rw (a .1, b .1) at (days-never-go-back w lawful s s′ h utc8)
 
--- ---- inside an inserted leap second the day is not affected
--- Entry i + 1 inserts the second before the moment from which it holds. A second whose TAI millisecond lies there has the UTC+8 day of the second
--- before it and of the second after it. None of them is early: entry i holds by then, a day before at the latest.
-pub inserted-second-keeps-the-day : (w : List ℤ) → leapLawful w ≡ true → (i : ℕ) → suc i < entries w → (before s after : Second)
-    → holdsFrom w (suc i) -ℤ pos 1000 ⩽ tai s → tai s ≺ holdsFrom w (suc i)
-    → before .0 +ℤ pos 1 ≡ s .0 → s .0 +ℤ pos 1 ≡ after .0
-    → (early w before ≡ false) × (dayIn w s utc8 ≡ dayIn w before utc8) × (dayIn w s utc8 ≡ dayIn w after utc8)
-inserted-second-keeps-the-day w l i m before s after from to b a = (
-  holds-first w before (inserted.first-holds-before w l i m before s after from to b a),
-  inserted.day-is w l i m before s after from to b a ∙ sym (inserted.day-before-is w l i m before s after from to b a),
-  inserted.day-is w l i m before s after from to b a ∙ sym (inserted.day-after-is w l i m before s after from to b a),
-)
+-- ---- the time shown never goes back, and no two seconds are shown alike
+pub shown-goes-on : (w : List ℤ) → leapLawful w ≡ true → (s s′ : Second) → s .0 ≺ s′ .0 → (zone : ℤ) → shownFirst (shownIn w s zone) (shownIn w s′ zone) ≡ true
+shown-goes-on w l s s′ h zone = shown-first w l s s′ h zone
+
+pub shown-never-goes-back : (w : List ℤ) → leapLawful w ≡ true → (s s′ : Second) → s .0 ⩽ s′ .0 → (zone : ℤ) → shownFirst (shownIn w s′ zone) (shownIn w s zone) ≡ false
+shown-never-goes-back w l s s′ h zone = ⊎-elim same (λ (k : s .0 <ℤ s′ .0). not-both-shown-first (shownIn w s zone) (shownIn w s′ zone) (shown-goes-on w l s s′ k zone)) (≤-total (s′ .0) (s .0))
+  where
+    same : s′ .0 ≤ℤ s .0 → shownFirst (shownIn w s′ zone) (shownIn w s zone) ≡ false
+    same k =
+        let e : s ≡ s′ = λ t. record { 0 = ≤-antisymm h k t } in
+        ap (λ (x : Second). shownFirst (shownIn w s′ zone) (shownIn w x zone)) e ∙ not-before-itself (shownIn w s′ zone)
+
+pub answered-shown-never-goes-back : (w : List ℤ) (s s′ : Second) → s .0 ⩽ s′ .0 → (t t′ : ShownTime) → shownOf w s ≡ answered t → shownOf w s′ ≡ answered t′ → shownFirst t′ t ≡ false
+unfolding shownOf
+answered-shown-never-goes-back w s s′ h t t′ e e′ =
+    let a = answered-says (clockJudged w s) e in
+    let b = answered-says (clockJudged w s′) e′ in
+    let lawful = readable w s utc8 (a .0) (within (search bounds) tt) .lawful-table in
+    rw (a .1, b .1) at (shown-never-goes-back w lawful s s′ h utc8)
+
+-- ---- days stay as they were: in a zone whose midnight is not UTC's, the day is that of the millisecond count, whether a second is inserted or not
+pub days-stay : (w : List ℤ) → leapLawful w ≡ true → (s : Second) (zone : ℤ) → 0 < floorMod zone 1440 → dayIn w s zone ≡ dayOfMilli (milliIn w s zone)
+unfolding dayIn dayOfMilli
+days-stay w l s zone h = λ t. record { 0 = day-stays w l s zone h t }
+
+pub answered-days-stay : (w : List ℤ) (s : Second) (d : Day) (m : Milli) → dayOfSecond w s ≡ answered d → milliOf w s ≡ answered m → d ≡ dayOfMilli m
+unfolding dayOfSecond milliOf floorMod
+answered-days-stay w s d m e f =
+    let a = answered-says (clockJudged w s) e in
+    let b = answered-says (clockJudged w s) f in
+    let lawful = readable w s utc8 (a .0) (within (search bounds) tt) .lawful-table in
+    sym (a .1) ∙ days-stay w lawful s utc8 (omega arith) ∙ ap dayOfMilli (b .1)
+
+-- ---- any other second is read as document 01 says: the day of its millisecond count, and the time of it
+pub elsewhere-as-before : (w : List ℤ) (s : Second) (zone : ℤ) → inserted w (tai s) ≡ false → (dayIn w s zone ≡ dayOfMilli (milliIn w s zone)) × (shownIn w s zone ≡ shownBy (record { milli = milliIn w s zone; inserted = false }))
+unfolding dayIn countIn shownIn milliIn readOff reading
+elsewhere-as-before w s zone e = (rw e, rw e)
+
+-- ---- an inserted second
+-- s lies inside the second that entry i + 1 inserts, the last one before it holds; `before` and `after` are the seconds beside it
+pub record Insertion (w : List ℤ) (i : ℕ) (before s after : Second) : Type 0 where
+  pub lawful : leapLawful w ≡ true
+  pub listed : suc i < entries w
+  pub from : holdsFrom w (suc i) -ℤ pos 1000 ⩽ tai s
+  pub to : tai s ≺ holdsFrom w (suc i)
+  pub next : before .0 +ℤ pos 1 ≡ s .0
+  pub last : s .0 +ℤ pos 1 ≡ after .0
+
+-- the inserted seconds are exactly these
+pub record Inserting (w : List ℤ) (before s after : Second) : Type 0 where
+  pub i : ℕ
+  pub inserts : Insertion w i before s after
+
+pub inserted-by-an-entry : (w : List ℤ) → leapLawful w ≡ true → (before s after : Second) → before .0 +ℤ pos 1 ≡ s .0 → s .0 +ℤ pos 1 ≡ after .0 → inserted w (tai s) ≡ true → Inserting w before s after
+inserted-by-an-entry w l before s after b a e =
+    let t = tai s in
+    let i = entryUsed w t in
+    let u = used w t l in
+    let ρ = holdsFrom w (suc i) ∷ t ∷ [] in
+    by-next w l t i u
+    (λ m h. record { i = i; inserts = record { lawful = l; listed = m; from = ⇑ ρ (search ring depth 9) (omega (arith, ⇓ ρ h (search ring depth 9))); to = not-yet w l t i u m; next = b; last = a } })
+    (λ n. not-both e (none-inserts w l t i u n))
+
+-- it is shown as the second before it, which is a fifty-ninth, but for the second, which is 60
+abbrev pub sixtieth : ShownTime → ShownTime
+sixtieth t = record { date = t .date; hour = t .hour; minute = t .minute; second = 60; millisecond = t .millisecond }
+
+module _ {w : List ℤ} {i : ℕ} {before s after : Second} (here : Insertion w i before s after) where
+  abbrev l : leapLawful w ≡ true
+  l = here .lawful
+
+  abbrev m : suc i < entries w
+  m = here .listed
+
+  reached : holdsFrom w (suc i) ⩽ tai s +ℤ pos 1000
+  reached = let ρ = holdsFrom w (suc i) ∷ tai s ∷ [] in ⇑ ρ (search ring depth 9) (omega (arith, ⇓ ρ (here .from) (search ring depth 9)))
+
+  pub insertion-is-inserted : inserted w (tai s) ≡ true
+  insertion-is-inserted = around.is-inserted w l i m s reached (here .to)
+
+  pub inserted-second-is-the-sixtieth : (zone : ℤ) → (shownIn w before zone .second ≡ 59) × (shownIn w s zone ≡ sixtieth (shownIn w before zone))
+  inserted-second-is-the-sixtieth zone = (said-before w l i m s reached (here .to) before (here .next) zone, said-inside w l i m s reached (here .to) before (here .next) zone)
+
+  -- neither is early: entry i holds by then, a day before at the latest
+  pub not-early-before : early w before ≡ false
+  not-early-before = holds-first w before (around.first-holds-before w l i m s reached (here .to) before (here .next))
+
+  -- its day is that of the second before it, in every zone, and that of the second after it where the zone's midnight is not UTC's
+  pub inserted-second-keeps-the-day : (zone : ℤ) → (dayIn w s zone ≡ dayIn w before zone) × (0 < floorMod zone 1440 → dayIn w s zone ≡ dayIn w after zone)
+  unfolding dayIn dayOfMilli
+  inserted-second-keeps-the-day zone = (
+    λ t. record { 0 = floorDiv (sym (around.count-before w l i m s reached (here .to) before (here .next) zone) t) 86400000 },
+    λ h t. record {
+      0 = (around.day-stays-inside w l i m s reached (here .to) zone h
+          ∙ ap (λ (c : ℤ). floorDiv c 86400000) (around.milli-is-later w l i m s reached (here .to) zone ∙ sym (around.count-after w l i m s reached (here .to) after (here .last) zone))) t;
+    },
+  )
+
+  -- in UTC itself it belongs to the day that it ends
+  pub inserted-second-ends-the-day : (dayIn w s (pos 0) .0 ≡ day w (suc i) -ℤ pos 1) × (dayIn w after (pos 0) .0 ≡ day w (suc i))
+  unfolding dayIn dayOfMilli
+  inserted-second-ends-the-day = (
+    around.ends-the-day w l i m s reached (here .to),
+    around.begins-the-day w l i m s reached (here .to) after (here .last),
+  )
 
 -- ---- every converted day has a date; the zones -720 to 840 are within 1,000 minutes
 pub converted-day-has-date : (w : List ℤ) → leapLawful w ≡ true → (s : Second) → convertible s ≡ true → (zone : ℤ) → Within 1000 zone → hasDate (dayIn w s zone .0) ≡ true

@@ -10,7 +10,7 @@ pub struct Reading {
     pub inserted: bool,
 }
 
-// A time as it is shown.
+// A time as it is shown; the second is 60 inside an inserted one.
 pub struct ShownTime {
     pub date: Date,
     pub hour: u64,

@@ -17,8 +17,8 @@ ghost use Rattle.whole.specs.Ranges.{Within};
 ghost use Rattle.whole.specs.Tests.{isExactly};
 ghost use Rattle.refusals.specs.Verdict.{paperCheck};
 ghost use Rattle.dates.specs.Answers.{hasDate};
-ghost use Rattle.clock.specs.Leap.{entries, offset, utcDay, firstEntry, nextEntry, goodEntry, wholePairs, leapLawful, holdsFrom, holds, entryUsed};
-ghost use Rattle.clock.specs.Clock.{convertible, tai, early, localMilli, reading, milliIn, dayIn, shownIn, dayOfMilli, shownOfMilli, Readable};
+ghost use Rattle.clock.specs.Leap.{entries, offset, utcDay, firstEntry, nextEntry, goodEntry, wholePairs, leapLawful, holdsFrom, holds, entryUsed, inserted};
+ghost use Rattle.clock.specs.Clock.{convertible, tai, early, localMilli, reading, milliIn, readOff, countIn, dayOfMilli, dayIn, secondSaid, shownBy, shownIn, Readable};
 ghost use Rattle.clock.specs.Answers.{clockJudged};
 
 // A TAI millisecond, counted from 2000-01-01 00:00 TAI. It does not leave this module.
@@ -226,16 +226,31 @@ fn local_milli(t: Tai, offset: i64, zone: i64) -> Milli
     Milli(millis - 1000 * offset + 60000 * zone)
 }
 
+// Whether TAI millisecond t, at which entry i is used, lies inside an inserted second: the next entry holds a second later.
+fn inserted(leap: &[i64], t: Tai, i: usize) -> bool
+    requires { ⌜ leapLawful (now leap) ≡ true ⌝ }
+    requires { ⌜ Within 20000000000000 (t .0) ⌝ }
+    requires { ⌜ i ≡ entryUsed (now leap) (t .0) ⌝ }
+    ensures { λ r. ⌜ r ≡ inserted (now (leap .entry)) (t .0) ⌝ }
+{
+    if leap.len() / 2 <= i + 1 {
+        return false;
+    }
+    let millis = t.0;
+    holds(leap, Tai(millis + 1000), i + 1)
+}
+
 // What the clock reads at a second.
 pub fn reading(leap: &[i64], second: Second, zone: i64) -> Reading
     requires { ⌜ Readable (now leap) second zone ⌝ }
     ensures { λ r. ⌜ r ≡ reading (now (leap .entry)) second zone ⌝ }
 {
     let t = tai_of(second);
-    let offset = offset_at(leap, entry_used(leap, t));
+    let i = entry_used(leap, t);
+    let offset = offset_at(leap, i);
     Reading {
         milli: local_milli(t, offset, zone),
-        inserted: false,
+        inserted: inserted(leap, t, i),
     }
 }
 
@@ -248,27 +263,61 @@ pub fn milli_in(leap: &[i64], second: Second, zone: i64) -> Milli
     read.milli
 }
 
+// The count off which day and time are read: inside an inserted second it is a second less.
+fn read_off(read: Reading) -> Milli
+    requires { ⌜ Within 30000000000000 (read .milli .0) ⌝ }
+    ensures { λ r. ⌜ r ≡ readOff read ⌝ }
+{
+    let milli = read.milli;
+    let m = milli.0;
+    if read.inserted {
+        return Milli(m - 1000);
+    }
+    milli
+}
+
+// And that of a second.
+pub fn count_in(leap: &[i64], second: Second, zone: i64) -> Milli
+    requires { ⌜ Readable (now leap) second zone ⌝ }
+    ensures { λ r. ⌜ r ≡ countIn (now (leap .entry)) second zone ⌝ }
+{
+    read_off(reading(leap, second, zone))
+}
+
 // The local day of a second.
 pub fn day_in(leap: &[i64], second: Second, zone: i64) -> Day
     requires { ⌜ Readable (now leap) second zone ⌝ }
     ensures { λ r. ⌜ r ≡ dayIn (now (leap .entry)) second zone ⌝ }
 {
-    super::day_of_milli(milli_in(leap, second, zone))
+    super::day_of_milli(count_in(leap, second, zone))
 }
 
-// A millisecond of a day that has a date, as it is shown.
-fn shown_of_milli(milli: Milli) -> ShownTime
-    requires { ⌜ hasDate (dayOfMilli milli .0) ≡ true ⌝ }
-    ensures { λ r. ⌜ r ≡ shownOfMilli milli ⌝ }
+// The second that is said when so many milliseconds of the day are over.
+fn second_said(inserted: bool, rest: u64) -> u64
+    ensures { λ r. ⌜ r ≡ secondSaid inserted rest ⌝ }
 {
-    let m = milli.0;
-    let date = dates::inner::date_for(super::day_of_milli(milli));
+    if inserted {
+        return 60;
+    }
+    rest / 1000 % 60
+}
+
+// A reading as it is shown, where its day has a date.
+fn shown_by(read: Reading) -> ShownTime
+    requires { ⌜ Within 30000000000000 (read .milli .0) ⌝ }
+    requires { ⌜ hasDate (dayOfMilli (readOff read) .0) ≡ true ⌝ }
+    ensures { λ r. ⌜ r ≡ shownBy read ⌝ }
+{
+    let count = read_off(read);
+    let m = count.0;
+    let date = dates::inner::date_for(super::day_of_milli(count));
     let rest = whole::absolute(floor_mod(m, 86400000));
+    let second = second_said(read.inserted, rest);
     ShownTime {
         date: date,
         hour: rest / 3600000,
         minute: rest / 60000 % 60,
-        second: rest / 1000 % 60,
+        second: second,
         millisecond: rest % 1000,
     }
 }
@@ -278,5 +327,5 @@ pub fn shown_in(leap: &[i64], second: Second, zone: i64) -> ShownTime
     requires { ⌜ Readable (now leap) second zone ⌝ }
     ensures { λ r. ⌜ r ≡ shownIn (now (leap .entry)) second zone ⌝ }
 {
-    shown_of_milli(milli_in(leap, second, zone))
+    shown_by(reading(leap, second, zone))
 }

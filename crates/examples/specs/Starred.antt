@@ -7,7 +7,7 @@ use mathlib.Core.List.{List, [], _∷_, _++_, List·Memᴰ·not-nil, List·Mem�
 use native.Mathlib.Omega.{arith}
 use lib.Dec.{T}
 use lib.IntN.{ℤ, pos, negsuc, natAbs, _-ℤ_}
-use Rattle.whole.specs.Below.{every, lastBelow}
+use Rattle.whole.specs.Below.{every, any, lastBelow}
 use Rattle.whole.specs.Counted.{countOf}
 use Rattle.whole.specs.Evaluated.{same, all}
 use Rattle.whole.specs.Floor.{floorDiv, floorMod}
@@ -17,8 +17,8 @@ use Rattle.refusals.specs.Evaluated.{isAccepted, isRefused, isRefusedAt}
 use Rattle.dates.specs.Calendar.{leapYear, leapYearsTo, newYear, monthLengths, monthLength, daysBefore, validDate, numberOf, yearOrNext, yearOf, monthsOver, dateInYear, dateFor}
 use Rattle.dates.specs.Answers.{hasDate, dateOf, dayOf}
 use Rattle.dates.specs.Examples as dates
-use Rattle.clock.specs.Leap.{firstEntry, nextEntry, goodEntry, wholePairs, leapLawful, holdsFrom, holds, entryUsed}
-use Rattle.clock.specs.Clock.{convertible, tai, early, localMilli, reading, milliIn, dayOfMilli, shownOfMilli, dayIn, shownIn}
+use Rattle.clock.specs.Leap.{firstEntry, nextEntry, goodEntry, wholePairs, leapLawful, holdsFrom, holds, entryUsed, insertedBy, inserted}
+use Rattle.clock.specs.Clock.{convertible, tai, early, localMilli, reading, readOff, countIn, dayOfMilli, dayIn, secondSaid, shownBy, shownIn}
 use Rattle.clock.specs.Answers.{leapJudged, clockJudged, dayOfSecond, shownOf}
 use Rattle.clock.specs.Examples as clock
 use Rattle.chebyshev.specs.Polynomials.{P}
@@ -46,10 +46,10 @@ joinOf s = valueAt s (pos 2764800) -ℤ valueAt s (pos 2764799)
 
 unfoldable pub starred : List Bool
 unfolding
-    floorDiv floorMod every lastBelow countOf firstFrom firstBelow firstBad
+    floorDiv floorMod every any lastBelow countOf firstFrom firstBelow firstBad
     leapYear leapYearsTo newYear monthLengths monthLength daysBefore validDate numberOf yearOrNext yearOf monthsOver dateInYear dateFor hasDate dateOf dayOf
-    firstEntry nextEntry goodEntry wholePairs leapLawful holdsFrom holds entryUsed
-    convertible tai early localMilli reading milliIn dayOfMilli shownOfMilli dayIn shownIn leapJudged clockJudged dayOfSecond shownOf
+    firstEntry nextEntry goodEntry wholePairs leapLawful holdsFrom holds entryUsed insertedBy inserted
+    convertible tai early localMilli reading readOff countIn dayOfMilli dayIn secondSaid shownBy shownIn leapJudged clockJudged dayOfSecond shownOf
     P sum value slope valueAt seriesJudged valueOf
     numberAt leapMark handle handleAt monthOf
     rule.notAfter rule.lastNotAfter rule.byFirst rule.bySecond rule.isMissing rule.moonMissing rule.monthCount rule.twelveOrThirteen rule.daysFound rule.daysOf

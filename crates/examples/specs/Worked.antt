@@ -5,15 +5,15 @@ use mathlib.Core.Bool.{_||_}
 use mathlib.Core.List.{List, [], _∷_, _++_}
 use Prim.Native.Nat.{ℕ}
 use lib.IntN.{ℤ, pos}
-use Rattle.whole.specs.Below.{every, lastBelow}
+use Rattle.whole.specs.Below.{every, any, lastBelow}
 use Rattle.whole.specs.Floor.{floorDiv, floorMod}
 use Rattle.refusals.specs.Verdict.{Verdict, answered, refused, accepted, refuseWhen, _before_}
 use Rattle.refusals.specs.Search.{firstBad}
 use Rattle.words.specs.Words.{words, bytes8}
 use Rattle.text.specs.Text.{line, date, time}
 use Rattle.dates.specs.Calendar.{leapYear, leapYearsTo, newYear, monthLengths, yearOrNext, yearOf, monthsOver, dateInYear, dateFor}
-use Rattle.clock.specs.Leap.{firstEntry, nextEntry, goodEntry, wholePairs, leapLawful, holdsFrom, holds, entryUsed}
-use Rattle.clock.specs.Clock.{tai, early, localMilli, reading, milliIn, dayOfMilli, shownOfMilli, shownIn}
+use Rattle.clock.specs.Leap.{firstEntry, nextEntry, goodEntry, wholePairs, leapLawful, holdsFrom, holds, entryUsed, insertedBy, inserted}
+use Rattle.clock.specs.Clock.{tai, early, localMilli, reading, readOff, dayOfMilli, secondSaid, shownBy, shownIn}
 use Rattle.clock.specs.Answers.{leapJudged}
 use Rattle.clock.specs.Examples.{table}
 use Rattle.chebyshev.specs.Polynomials.{P}
@@ -56,7 +56,7 @@ threeLines =
     ∷ []
 
 lines-are : linesOf (under table) ≡ threeLines
-unfolding lineOf leapYear leapYearsTo newYear monthLengths yearOrNext yearOf monthsOver dateInYear dateFor floorDiv floorMod holdsFrom holds lastBelow entryUsed tai localMilli reading milliIn dayOfMilli shownOfMilli shownIn
+unfolding lineOf leapYear leapYearsTo newYear monthLengths yearOrNext yearOf monthsOver dateInYear dateFor floorDiv floorMod holdsFrom holds lastBelow entryUsed any insertedBy inserted tai localMilli reading readOff dayOfMilli secondSaid shownBy shownIn
 lines-are = ap₂ (linesBy table) sun-lists moon-lists
 
 is-listed : listed (under table) ≡ answered threeLines

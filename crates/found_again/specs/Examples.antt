@@ -4,11 +4,11 @@ use mathlib.Core.Bool.{Bool, not}
 use mathlib.Core.List.{List, [], _∷_}
 use lib.Dec.{T}
 use lib.IntN.{ℤ, pos, negsuc}
-use Rattle.whole.specs.Below.{lastBelow}
+use Rattle.whole.specs.Below.{any, lastBelow}
 use Rattle.whole.specs.Evaluated.{all, same}
 use Rattle.whole.specs.Floor.{floorDiv}
-use Rattle.clock.specs.Leap.{holdsFrom, holds, entryUsed}
-use Rattle.clock.specs.Clock.{tai, localMilli, reading, milliIn, dayOfMilli, dayIn, utc8}
+use Rattle.clock.specs.Leap.{holdsFrom, holds, entryUsed, insertedBy, inserted}
+use Rattle.clock.specs.Clock.{tai, localMilli, reading, readOff, countIn, dayOfMilli, dayIn, utc8}
 use Rattle.found_again.specs.Begin.{beginAlike}
 
 -- ---- how the examples are written
@@ -33,7 +33,7 @@ abbrev day : List ℤ → ℤ → ℤ
 day leap second = dayIn leap (record { 0 = second }) utc8 .0
 
 unfoldable pub examples : List Bool
-unfolding beginAlike holdsFrom holds lastBelow entryUsed tai localMilli reading milliIn dayOfMilli dayIn floorDiv
+unfolding beginAlike holdsFrom holds lastBelow entryUsed any insertedBy inserted tai localMilli reading readOff countIn dayOfMilli dayIn floorDiv
 examples =
     -- the same, and each word another
     beginAlike table table begun begun

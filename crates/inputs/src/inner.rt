@@ -59,9 +59,9 @@ pub fn day_of_mark(
     ensures { λ r. ⌜ r ≡ dayOfMark (now (leap .entry)) (series body (start .0) (now (coefs .entry))) zone index ⌝ }
 {
     let near = locator::inner::enclose(body, start, coefs, index);
-    let milli = conversion::inner::milli_in(leap, Second(near.by), zone);
-    if have_passed(milli, subtract(near.by, near.after)) {
-        return conversion::day_of_milli(milli);
+    let count = conversion::inner::count_in(leap, Second(near.by), zone);
+    if have_passed(count, subtract(near.by, near.after)) {
+        return conversion::day_of_milli(count);
     }
     let second = locator::inner::locate(body, start, coefs, index);
     conversion::inner::day_in(leap, second, zone)

@@ -10,12 +10,12 @@ use Rattle.refusals.specs.Verdict.{Verdict, answered, refused, _then_}
 use Rattle.refusals.specs.Evaluated.{isRefused}
 use Rattle.whole.specs.Evaluated.{same, all, sameNumbers, sameWords}
 use Rattle.whole.specs.Floor.{floorDiv, floorMod}
-use Rattle.whole.specs.Below.{every, lastBelow}
+use Rattle.whole.specs.Below.{every, any, lastBelow}
 use Rattle.words.specs.Words.{words}
 use Rattle.text.specs.Text.{line, date, time}
 use Rattle.dates.specs.Calendar.{leapYear, leapYearsTo, newYear, monthLengths, yearOrNext, yearOf, monthsOver, dateInYear, dateFor}
-use Rattle.clock.specs.Leap.{leapLawful, wholePairs, firstEntry, nextEntry, goodEntry, holdsFrom, holds, entryUsed}
-use Rattle.clock.specs.Clock.{tai, localMilli, reading, milliIn, dayOfMilli, shownOfMilli, shownIn}
+use Rattle.clock.specs.Leap.{leapLawful, wholePairs, firstEntry, nextEntry, goodEntry, holdsFrom, holds, entryUsed, insertedBy, inserted}
+use Rattle.clock.specs.Clock.{tai, localMilli, reading, readOff, dayOfMilli, secondSaid, shownBy, shownIn}
 use Rattle.clock.specs.Answers.{leapJudged}
 use Rattle.series.specs.declared.Body.the-variants.{Sun, Moon}
 use Rattle.marks.specs.Marks.{Mark}
@@ -76,8 +76,15 @@ table = negsuc 364 ∷ pos 32 ∷ []
 abbrev lineThen : ℕ → ℕ → List ℕ
 lineThen letter index = line letter index (date 1999 12 31) (time 23 59 59 816)
 
+-- a second is inserted before 2006-01-01, and a new moon lies inside it
+abbrev longer : List ℤ
+longer = negsuc 364 ∷ pos 32 ∷ pos 2192 ∷ pos 33 ∷ []
+
+abbrev inside : Mark
+inside = record { index = pos 0; second = pos 189388865 }
+
 unfoldable pub examples : List Bool
-unfolding sectionEnd places lineOf listed listedWords listedBytes words inputsJudged leapJudged leapLawful wholePairs firstEntry nextEntry goodEntry every leapYear leapYearsTo newYear monthLengths yearOrNext yearOf monthsOver dateInYear dateFor floorDiv floorMod holdsFrom holds lastBelow entryUsed tai localMilli reading milliIn dayOfMilli shownOfMilli shownIn
+unfolding sectionEnd places lineOf listed listedWords listedBytes words inputsJudged leapJudged leapLawful wholePairs firstEntry nextEntry goodEntry every leapYear leapYearsTo newYear monthLengths yearOrNext yearOf monthsOver dateInYear dateFor floorDiv floorMod holdsFrom holds lastBelow entryUsed any insertedBy inserted tai localMilli reading readOff dayOfMilli secondSaid shownBy shownIn
 examples =
     -- where the sections stand; a word less, a word more
     isPlaces 3 19 (places (leap ++ one ++ one))
@@ -101,6 +108,8 @@ examples =
     -- S 23 and M 3: mark -1 is the last of a circle
     ∷ sameNumbers (lineOf Sun table minusOne) (lineThen 83 23)
     ∷ sameNumbers (lineOf Moon table minusOne) (lineThen 77 3)
+    -- an inserted second is the sixtieth
+    ∷ sameNumbers (lineOf Moon longer inside) (line 77 0 (date 2006 1 1) (time 7 59 60 816))
     -- all of the Sun's lines, then the Moon's
     ∷ sameLines (linesBy table (minusOne ∷ minusOne ∷ []) (minusOne ∷ [])) (lineThen 83 23 ∷ lineThen 83 23 ∷ lineThen 77 3 ∷ [])
     ∷ []

@@ -6,7 +6,7 @@ use Prim.Native.Nat.{ℕ, _+_, _-_}
 use lib.Dec.{T, eqb}
 use lib.IntN.{ℤ, pos, negsuc, _+ℤ_, _-ℤ_, _*ℤ_}
 use lib.ListN.{getD, take, drop, replicate}
-use Rattle.whole.specs.Below.{every, lastBelow}
+use Rattle.whole.specs.Below.{every, any, lastBelow}
 use Rattle.whole.specs.Counted.{countOf}
 use Rattle.whole.specs.Evaluated.{same, all}
 use Rattle.whole.specs.Floor.{floorDiv, floorMod}
@@ -15,8 +15,8 @@ use Rattle.refusals.specs.Verdict.{Verdict, answered, refused, _then_}
 use Rattle.refusals.specs.Evaluated.{isRefused, isRefusedAt}
 use Rattle.refusals.specs.Search.{firstBad}
 use Rattle.dates.specs.Calendar.{leapYearsTo, newYear, yearOrNext, yearOf}
-use Rattle.clock.specs.Leap.{leapLawful, wholePairs, firstEntry, nextEntry, goodEntry, holdsFrom, holds, entryUsed}
-use Rattle.clock.specs.Clock.{utc8, tai, localMilli, reading, milliIn, dayOfMilli, dayIn}
+use Rattle.clock.specs.Leap.{leapLawful, wholePairs, firstEntry, nextEntry, goodEntry, holdsFrom, holds, entryUsed, insertedBy, inserted}
+use Rattle.clock.specs.Clock.{utc8, tai, localMilli, reading, readOff, countIn, dayOfMilli, dayIn}
 use Rattle.clock.specs.Answers.{leapJudged}
 use Rattle.chebyshev.specs.Polynomials.{P}
 use Rattle.chebyshev.specs.Segment.{sum, value, slope}
@@ -143,7 +143,7 @@ unfolding
     daysOf daysFound notAfter byFirst bySecond isMissing moonMissing monthCount twelveOrThirteen countOf yearInRange
     monthLength isWithin zhongqiIn zhongqiOf without firstWithout firstFrom firstBelow leapMonth numberAt leapMark handle handleAt monthOf monthAt numbered
     goodLength badMonth firstBadMonth lengthsJudged suiOf
-    dayIn dayOfMilli milliIn reading localMilli tai holdsFrom holds entryUsed lastBelow
+    dayIn dayOfMilli countIn readOff reading localMilli tai inserted insertedBy any holdsFrom holds entryUsed lastBelow
     leapYearsTo newYear yearOrNext yearOf floorDiv floorMod
     inputsJudged leapJudged leapLawful wholePairs firstEntry nextEntry goodEntry every seriesJudged firstBad value slope sum P
 examples =

@@ -1,16 +1,21 @@
--- The numbers below a bound: that each of them passes a test (`every`), and the last that does (`lastBelow`). Assumes nothing.
+-- The numbers below a bound: that each of them passes a test (`every`), that one does (`any`), and the last that does (`lastBelow`). Assumes nothing.
 use Prim.Native.Nat.{ℕ, zero, suc, _+_, _<_, _≤_}
 use mathlib.Core.Path.{_≡_, refl, sym, ap, _∙_}
-use mathlib.Core.Bool.{Bool, true, false, cond, _&&_}
+use mathlib.Core.Bool.{Bool, true, false, cond, _&&_, _||_}
 use native.Mathlib.Numerals.{add-one}
 use native.Mathlib.Omega.{arith}
 use native.Mathlib.Decide.{decLt}
-use Rattle.whole.specs.Booleans.{both, second-fails, not-both}
+use Rattle.whole.specs.Booleans.{both, second-fails, second-holds, none-of, not-both}
 
 -- f holds of each number below n
 unfoldable pub every : (ℕ → Bool) → ℕ → Bool
 every f zero = true
 every f (suc n) = f n && every f n
+
+-- f holds of some number below n
+unfoldable pub any : (ℕ → Bool) → ℕ → Bool
+any f zero = false
+any f (suc n) = f n || any f n
 
 -- the last number below n of which f holds; 0 where it holds of none
 unfoldable pub lastBelow : (ℕ → Bool) → ℕ → ℕ
@@ -40,6 +45,16 @@ module _ (f : ℕ → Bool) where
   unfolding every
   every-at zero e i h = absurd (omega arith)
   every-at (suc n) e i h = let b = both (f n) (every f n) e in below i n h (λ l. every-at n (b .1) i l) (λ q. ap f q ∙ b .0)
+
+  pub any-true : (n i : ℕ) → i < n → f i ≡ true → any f n ≡ true
+  unfolding any
+  any-true zero i h e = absurd (omega arith)
+  any-true (suc n) i h e = below i n h (λ l. second-holds (f n) (any f n) (any-true n i l e)) (λ q. rw (ap f (sym q) ∙ e))
+
+  pub any-false : (n : ℕ) → ((i : ℕ) → i < n → f i ≡ false) → any f n ≡ false
+  unfolding any
+  any-false zero h = refl
+  any-false (suc n) h = none-of (f n) (any f n) (h n (omega arith)) (any-false n (λ i l. h i (omega arith)))
 
   -- for a loop: none of the first are left out at 0, and one more passes at each turn
   pub every-none : every f 0 ≡ true

@@ -26,6 +26,10 @@ pub neither : (a b : Bool) → (a || b) ≡ false → (a ≡ false) × (b ≡ fa
 neither false b e = (refl, e)
 neither true b e = let z : _≡_ {A = ℕ} 0 1 = cc in absurd (omega arith)
 
+pub second-holds : (a b : Bool) → b ≡ true → (a || b) ≡ true
+second-holds true b e = refl
+second-holds false b e = e
+
 pub none-of : (a b : Bool) → a ≡ false → b ≡ false → (a || b) ≡ false
 none-of a b p q = rw (p, q)
 

@@ -12,6 +12,7 @@ pub mod Evaluated
 pub mod Lists
 pub mod Tests
 pub mod Below
+pub mod Order
 pub mod Counted
 pub mod Tabulated
 pub mod Selected

@@ -1,101 +1,121 @@
--- An inserted second, its second before and its second after, in UTC+8: entry i is used by the first two and entry i + 1 by the third, and the day of all
--- three is the UTC day of entry i + 1, eight hours of which are over. Assumes nothing.
-use Prim.Native.Nat.{ℕ, suc, _<_, _≤_}
-use mathlib.Core.Path.{_≡_}
-use mathlib.Core.Bool.{true}
+-- Which seconds are inserted, by the entry used: those at which the next entry holds a second later. So the count off which day and time are read is the local
+-- millisecond under the offset that is used a second later (`count-is`). Assumes nothing.
+use Prim.Native.Nat.{ℕ, zero, suc, _<_, _≤_}
+use mathlib.Core.Path.{_≡_, refl, sym, _∙_}
+use mathlib.Core.Bool.{Bool, true, false, cond}
 use mathlib.Core.List.{List, [], _∷_}
 use native.Mathlib.Omega.{arith}
-use lib.IntN.{ℤ, pos, _+ℤ_, _-ℤ_, _*ℤ_}
+use native.Mathlib.Decide.{decLt}
+use lib.IntN.{ℤ, pos, _+ℤ_, _-ℤ_}
+use lib.Signed.{leZ, ltZ}
 use Rattle.whole.specs.Parts.{_⩽_, _≺_}
-use Rattle.whole.specs.Laws.{≤-antisymm, ≤-trans, <-≤-trans}
-use Rattle.whole.specs.Solver.{⇑, ⇓, ring, yes-le, no-le}
-use Rattle.whole.specs.Floor.{floorDiv, floorDiv-ge, floorDiv-le}
-use Rattle.times.specs.declared.Day.{Day}
+use Rattle.whole.specs.Laws.{≤-trans, <-≤-trans}
+use Rattle.whole.specs.Below.{any-true, any-false}
+use Rattle.whole.specs.Booleans.{both-hold, first-fails, second-fails}
+use Rattle.whole.specs.Solver.{⇑, ⇓, ring, le-yes, le-no, yes-le, no-le, yes-lt, no-lt}
 use Rattle.times.specs.declared.Second.{Second}
-use Rattle.clock.specs.Leap.{leapLawful, entries, day, offset, holdsFrom, holds}
-use Rattle.clock.specs.Clock.{utc8, tai, localMilli, reading, milliIn, dayOfMilli, dayIn}
-use Rattle.clock.specs.theory.Table.{offset-next, moments-in-order, moment-later}
-use Rattle.clock.specs.theory.Used.{Used, used-is}
+use Rattle.clock.specs.Leap.{leapLawful, entries, offset, holdsFrom, holds, entryUsed, insertedBy, inserted}
+use Rattle.clock.specs.Clock.{tai, localMilli, reading, readOff, countIn}
+use Rattle.clock.specs.theory.Table.{offset-next, moment-later, moments-in-order}
+use Rattle.clock.specs.theory.Used.{Used, used, used-is, holds-on, entry-between}
 
-abbrev utcDayOf : List ℤ → ℕ → Day
-utcDayOf w i = record { 0 = day w i }
+-- a second later
+abbrev pub later : ℤ → ℤ
+later t = t +ℤ pos 1000
 
--- from the moment of entry i on, and before that of entry i + 1, entry i is used
-pub entry-between : (w : List ℤ) (t : ℤ) (i : ℕ) → leapLawful w ≡ true → i < entries w → holdsFrom w i ⩽ t → (suc i < entries w → t ≺ holdsFrom w (suc i)) → Used w t i
-unfolding holds
-entry-between w t i l m h k =
-    record {
-      below = m;
-      here = λ z. yes-le {a = holdsFrom w i} {b = t} h;
-      none-after = λ j p q. no-le {a = holdsFrom w j} {b = t} (<-≤-trans (k (omega arith)) (moments-in-order w l (suc i) j (omega arith) q));
-    }
+pub is-later : (t : ℤ) → t ⩽ later t
+is-later t = let ρ = t ∷ [] in ⇑ ρ (search ring) (omega arith)
 
--- the day, eight hours and less than a second off, is d
-eight-hours : (d m : ℤ) → pos 86400000 *ℤ d +ℤ pos 28799000 ⩽ m → m ≺ pos 86400000 *ℤ d +ℤ pos 28801000 → floorDiv m 86400000 ≡ d
-eight-hours d m h k =
-    let ρ = d ∷ m ∷ [] in
-    ≤-antisymm
-    (floorDiv-le {z = m} {q = d} 86400000 (omega arith) (⇑ ρ (search ring) (omega (arith, ⇓ ρ k (search ring)))))
-    (floorDiv-ge {z = m} {q = d} 86400000 (omega arith) (⇑ ρ (search ring) (omega (arith, ⇓ ρ h (search ring)))))
+-- inside the second that entry i + 1 inserts
+pub inside : (w : List ℤ) (t : ℤ) (i : ℕ) → suc i < entries w → holdsFrom w (suc i) ⩽ later t → t ≺ holdsFrom w (suc i) → inserted w t ≡ true
+unfolding inserted insertedBy
+inside w t i m from to =
+    let ρ = t ∷ holdsFrom w (suc i) ∷ [] in
+    any-true (insertedBy w t) (entries w) (suc i) m
+    (both-hold (leZ (holdsFrom w (suc i) -ℤ pos 1000) t) (ltZ t (holdsFrom w (suc i)))
+    (yes-le {a = holdsFrom w (suc i) -ℤ pos 1000} {b = t} (⇑ ρ (search ring depth 9) (omega (arith, ⇓ ρ from (search ring)))))
+    (yes-lt to))
 
--- the UTC+8 day, from the entry used and the millisecond under its offset
-day-by : (w : List ℤ) (s : Second) (i : ℕ) (d : ℤ) → Used w (tai s) i → pos 86400000 *ℤ d +ℤ pos 28799000 ⩽ localMilli (tai s) (offset w i) utc8 .0 → localMilli (tai s) (offset w i) utc8 .0 ≺ pos 86400000 *ℤ d +ℤ pos 28801000 → dayIn w s utc8 ≡ record { 0 = d }
-unfolding dayIn dayOfMilli milliIn reading
-day-by w s i d u h k = rw (used-is w (tai s) i u) (λ t. record { 0 = eight-hours d (localMilli (tai s) (offset w i) utc8 .0) h k t })
-
-module _ (w : List ℤ) (l : leapLawful w ≡ true) (i : ℕ) (m : suc i < entries w) (before s after : Second)
-    (from : holdsFrom w (suc i) -ℤ pos 1000 ⩽ tai s) (to : tai s ≺ holdsFrom w (suc i)) (b : before .0 +ℤ pos 1 ≡ s .0) (a : s .0 +ℤ pos 1 ≡ after .0) where
-  tai-before : tai before +ℤ pos 1000 ≡ tai s
-  unfolding tai
-  tai-before = let ρ = before .0 ∷ s .0 ∷ [] in ⇑ ρ (search ring depth 9) (omega (arith, ⇓ ρ b (search ring)))
-
-  tai-after : tai s +ℤ pos 1000 ≡ tai after
-  unfolding tai
-  tai-after = let ρ = s .0 ∷ after .0 ∷ [] in ⇑ ρ (search ring depth 9) (omega (arith, ⇓ ρ a (search ring)))
-
-  -- the second before it: entry i holds, since a day at least lies between two entries
-  holds-before : holdsFrom w i ⩽ tai before
-  holds-before = let ρ = holdsFrom w i ∷ holdsFrom w (suc i) ∷ tai before ∷ tai s ∷ [] in ⇑ ρ (search ring) (omega (arith, ⇓ ρ (moment-later w l i m) (search ring), ⇓ ρ tai-before (search ring), ⇓ ρ from (search ring)))
-
-  used-before : Used w (tai before) i
-  used-before = let ρ = holdsFrom w (suc i) ∷ tai before ∷ tai s ∷ [] in entry-between w (tai before) i l (omega arith) holds-before (λ n. ⇑ ρ (search ring) (omega (arith, ⇓ ρ tai-before (search ring), ⇓ ρ to (search ring))))
-
-  used-inside : Used w (tai s) i
-  used-inside = let ρ = holdsFrom w i ∷ tai before ∷ tai s ∷ [] in entry-between w (tai s) i l (omega arith) (⇑ ρ (search ring) (omega (arith, ⇓ ρ holds-before (search ring), ⇓ ρ tai-before (search ring)))) (λ n. to)
-
-  used-after : Used w (tai after) (suc i)
-  used-after =
-      let ρ = holdsFrom w (suc i) ∷ tai s ∷ tai after ∷ [] in
-      entry-between w (tai after) (suc i) l m (⇑ ρ (search ring) (omega (arith, ⇓ ρ tai-after (search ring), ⇓ ρ from (search ring)))) later
-    where
-      later : suc (suc i) < entries w → tai after ≺ holdsFrom w (suc (suc i))
-      later n = let ρ = holdsFrom w (suc i) ∷ holdsFrom w (suc (suc i)) ∷ tai s ∷ tai after ∷ [] in ⇑ ρ (search ring) (omega (arith, ⇓ ρ (moment-later w l (suc i) n) (search ring), ⇓ ρ tai-after (search ring), ⇓ ρ to (search ring)))
-
-  pub first-holds-before : holds w (tai before) 0 ≡ true
+module _ (w : List ℤ) (l : leapLawful w ≡ true) (t : ℤ) (i : ℕ) (u : Used w t i) where
+  pub not-yet : suc i < entries w → t ≺ holdsFrom w (suc i)
   unfolding holds
-  first-holds-before = yes-le {a = holdsFrom w 0} {b = tai before} (≤-trans (moments-in-order w l 0 i (omega arith) (omega arith)) holds-before)
+  not-yet m = le-no {a = holdsFrom w (suc i)} {b = t} (u .none-after (suc i) (omega arith) m)
 
-  -- ---- the three days
-  pub day-before-is : dayIn w before utc8 ≡ utcDayOf w (suc i)
-  unfolding localMilli holdsFrom
-  day-before-is =
-      let ρ = tai before ∷ tai s ∷ offset w i ∷ offset w (suc i) ∷ day w (suc i) ∷ [] in
-      day-by w before i (day w (suc i)) used-before
-      (⇑ ρ (search ring depth 12) (omega (arith, ⇓ ρ from (search ring depth 9), ⇓ ρ tai-before (search ring), ⇓ ρ (offset-next w l i m) (search ring))))
-      (⇑ ρ (search ring depth 12) (omega (arith, ⇓ ρ to (search ring depth 9), ⇓ ρ tai-before (search ring), ⇓ ρ (offset-next w l i m) (search ring))))
+  -- ---- the next entry holds a second later
+  module _ (m : suc i < entries w) (h : holdsFrom w (suc i) ⩽ later t) where
+    next-inserts : inserted w t ≡ true
+    next-inserts = inside w t i m h (not-yet m)
 
-  pub day-is : dayIn w s utc8 ≡ utcDayOf w (suc i)
-  unfolding localMilli holdsFrom
-  day-is =
-      let ρ = tai s ∷ offset w i ∷ offset w (suc i) ∷ day w (suc i) ∷ [] in
-      day-by w s i (day w (suc i)) used-inside
-      (⇑ ρ (search ring depth 12) (omega (arith, ⇓ ρ from (search ring depth 9), ⇓ ρ (offset-next w l i m) (search ring))))
-      (⇑ ρ (search ring depth 12) (omega (arith, ⇓ ρ to (search ring depth 9), ⇓ ρ (offset-next w l i m) (search ring))))
+    pub next-used : Used w (later t) (suc i)
+    next-used = entry-between w (later t) (suc i) l m h after
+      where
+        after : suc (suc i) < entries w → later t ≺ holdsFrom w (suc (suc i))
+        after n = let ρ = holdsFrom w (suc i) ∷ holdsFrom w (suc (suc i)) ∷ t ∷ [] in ⇑ ρ (search ring) (omega (arith, ⇓ ρ (moment-later w l (suc i) n) (search ring), ⇓ ρ (not-yet m) (search ring)))
 
-  pub day-after-is : dayIn w after utc8 ≡ utcDayOf w (suc i)
-  unfolding localMilli holdsFrom
-  day-after-is =
-      let ρ = tai s ∷ tai after ∷ offset w (suc i) ∷ day w (suc i) ∷ [] in
-      day-by w after (suc i) (day w (suc i)) used-after
-      (⇑ ρ (search ring depth 12) (omega (arith, ⇓ ρ from (search ring depth 9), ⇓ ρ tai-after (search ring))))
-      (⇑ ρ (search ring depth 12) (omega (arith, ⇓ ρ to (search ring depth 9), ⇓ ρ tai-after (search ring))))
+  -- ---- there is none, or it does not
+  module _ (none : suc i < entries w → later t ≺ holdsFrom w (suc i)) where
+    none-behind : (j : ℕ) → i < j → j < entries w → later t ≺ holdsFrom w j
+    none-behind j h k = <-≤-trans (none (omega arith)) (moments-in-order w l (suc i) j (omega arith) k)
+
+    pub none-inserts : inserted w t ≡ false
+    unfolding inserted insertedBy holds
+    none-inserts = any-false (insertedBy w t) (entries w) each
+      where
+        each : (j : ℕ) → j < entries w → insertedBy w t j ≡ false
+        each zero h = refl
+        each (suc j) h = go (decLt i (suc j))
+          where
+            go : Dec (i < suc j) → insertedBy w t (suc j) ≡ false
+            go (yes b) =
+                let ρ = t ∷ holdsFrom w (suc j) ∷ [] in
+                first-fails (leZ (holdsFrom w (suc j) -ℤ pos 1000) t) (ltZ t (holdsFrom w (suc j))) (no-le {a = holdsFrom w (suc j) -ℤ pos 1000} {b = t} (⇑ ρ (search ring depth 9) (omega (arith, ⇓ ρ (none-behind (suc j) b h) (search ring)))))
+            go (no b) =
+                let held : holdsFrom w i ⩽ t = le-yes {a = holdsFrom w i} {b = t} (u .here (omega arith)) in
+                second-fails (leZ (holdsFrom w (suc j) -ℤ pos 1000) t) (ltZ t (holdsFrom w (suc j))) (no-lt (≤-trans (moments-in-order w l (suc j) i (omega arith) (u .below)) held))
+
+    same-used : Used w (later t) i
+    unfolding holds
+    same-used =
+        record {
+          below = u .below;
+          here = λ z. holds-on w t (later t) i (is-later t) (u .here z);
+          none-after = λ k p q. no-le {a = holdsFrom w k} {b = later t} (none-behind k p q);
+        }
+
+  -- ---- one or the other
+  pub by-next : {X : Type 0} → ((m : suc i < entries w) → holdsFrom w (suc i) ⩽ later t → X) → ((suc i < entries w → later t ≺ holdsFrom w (suc i)) → X) → X
+  by-next {X} f g = go (decLt (suc i) (entries w)) (leZ (holdsFrom w (suc i)) (later t)) refl
+    where
+      go : Dec (suc i < entries w) → (b : Bool) → leZ (holdsFrom w (suc i)) (later t) ≡ b → X
+      go (no n) b e = g (λ m. absurd (omega arith))
+      go (yes m) true e = f m (le-yes {a = holdsFrom w (suc i)} {b = later t} e)
+      go (yes m) false e = g (λ n. le-no {a = holdsFrom w (suc i)} {b = later t} e)
+
+  -- what a program tests
+  pub last-inserts-nothing : entries w ≤ suc i → inserted w t ≡ false
+  last-inserts-nothing h = none-inserts (λ m. absurd (omega arith))
+
+  pub next-decides : suc i < entries w → holds w (later t) (suc i) ≡ inserted w t
+  unfolding holds
+  next-decides m = go (leZ (holdsFrom w (suc i)) (later t)) refl
+    where
+      go : (b : Bool) → leZ (holdsFrom w (suc i)) (later t) ≡ b → leZ (holdsFrom w (suc i)) (later t) ≡ inserted w t
+      go true e = e ∙ sym (next-inserts m (le-yes {a = holdsFrom w (suc i)} {b = later t} e))
+      go false e = e ∙ sym (none-inserts (λ n. le-no {a = holdsFrom w (suc i)} {b = later t} e))
+
+  -- ---- the count
+  count-by : (zone : ℤ) → cond (inserted w t) (localMilli t (offset w i) zone .0 -ℤ pos 1000) (localMilli t (offset w i) zone .0) ≡ localMilli t (offset w (entryUsed w (later t))) zone .0
+  unfolding localMilli
+  count-by zone = by-next when-inserted when-not
+    where
+      when-inserted : (m : suc i < entries w) → holdsFrom w (suc i) ⩽ later t → cond (inserted w t) (localMilli t (offset w i) zone .0 -ℤ pos 1000) (localMilli t (offset w i) zone .0) ≡ localMilli t (offset w (entryUsed w (later t))) zone .0
+      when-inserted m h =
+          let ρ = t ∷ offset w i ∷ offset w (suc i) ∷ zone ∷ [] in
+          rw (next-inserts m h, used-is w (later t) (suc i) (next-used m h)) (⇑ ρ (search ring depth 12) (omega (arith, ⇓ ρ (offset-next w l i m) (search ring))))
+
+      when-not : (suc i < entries w → later t ≺ holdsFrom w (suc i)) → cond (inserted w t) (localMilli t (offset w i) zone .0 -ℤ pos 1000) (localMilli t (offset w i) zone .0) ≡ localMilli t (offset w (entryUsed w (later t))) zone .0
+      when-not n = rw (none-inserts n, used-is w (later t) i (same-used n))
+
+pub count-is : (w : List ℤ) → leapLawful w ≡ true → (s : Second) (zone : ℤ) → countIn w s zone ≡ localMilli (tai s) (offset w (entryUsed w (later (tai s)))) zone
+unfolding countIn readOff reading
+count-is w l s zone = λ x. record { 0 = count-by w l (tai s) (entryUsed w (tai s)) (used w (tai s) l) zone x }

@@ -12,9 +12,10 @@ use Rattle.whole.specs.Tests.{in-range-says, says-in-range}
 use Rattle.dates.specs.Answers.{hasDate}
 use Rattle.times.specs.declared.Second.{Second}
 use Rattle.clock.specs.Leap.{leapLawful, offset, entryUsed}
-use Rattle.clock.specs.Clock.{convertible, tai, localMilli, reading, milliIn, dayOfMilli, dayIn}
+use Rattle.clock.specs.Clock.{convertible, tai, localMilli, reading, dayOfMilli, dayIn}
 use Rattle.clock.specs.theory.Table.{offset-small}
 use Rattle.clock.specs.theory.Used.{used}
+use Rattle.clock.specs.theory.Inserted.{later, count-is}
 
 second-range : (s : Second) → convertible s ≡ true → (negsuc 9999999999 ⩽ s .0) × (s .0 ⩽ pos 16000000000)
 unfolding convertible
@@ -49,5 +50,12 @@ module _ (s : Second) (o zone : ℤ) (k : convertible s ≡ true) (small : Withi
   milli-has-date = says-in-range (negsuc 149999) (pos 200000) (floorDiv (localMilli (tai s) o zone .0) 86400000) from to
 
 pub reading-has-date : (w : List ℤ) (s : Second) (zone : ℤ) → leapLawful w ≡ true → convertible s ≡ true → Within 1000 zone → hasDate (dayIn w s zone .0) ≡ true
-unfolding reading milliIn dayIn
-reading-has-date w s zone l k z = milli-has-date s (offset w (entryUsed w (tai s))) zone k (offset-used-small w (tai s) l) z
+unfolding dayIn
+reading-has-date w s zone l k z = rw (count-is w l s zone) (milli-has-date s (offset w (entryUsed w (later (tai s)))) zone k (offset-used-small w (later (tai s)) l) z)
+
+pub reading-small : (w : List ℤ) (s : Second) (zone : ℤ) → leapLawful w ≡ true → convertible s ≡ true → Within 1000 zone → Within 30000000000000 (reading w s zone .milli .0)
+unfolding reading localMilli
+reading-small w s zone l k z =
+    let t = tai-small s k in
+    let o = offset-used-small w (tai s) l in
+    within (search bounds) tt

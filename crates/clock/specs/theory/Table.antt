@@ -4,13 +4,12 @@ use mathlib.Core.Path.{_≡_}
 use mathlib.Core.Bool.{true, _&&_}
 use mathlib.Core.List.{List, [], _∷_}
 use native.Mathlib.Omega.{arith}
-use lib.IntN.{ℤ, pos, negsuc, _+ℤ_}
+use lib.IntN.{ℤ, pos, negsuc, _+ℤ_, _*ℤ_}
 use lib.Signed.{ltZ}
 use lib.ListN.{length}
 use lib.Dec.{eqb, leb}
 use borrow.Author.Tests.{leb-true}
 use Rattle.whole.specs.Parts.{_⩽_, _≺_}
-use Rattle.whole.specs.Laws.{≤-trans, <→≤}
 use Rattle.whole.specs.Ranges.{Within}
 use Rattle.whole.specs.Solver.{⇑, ⇓, ring, lt-yes}
 use Rattle.whole.specs.Booleans.{both}
@@ -89,23 +88,22 @@ module _ (w : List ℤ) (l : leapLawful w ≡ true) where
       let ρ = offset w 0 ∷ offset w i ∷ pos i ∷ [] in
       record { within = ⇑ ρ (search ring) (omega (arith, few, ⇓ ρ (offset-is i h) (search ring), ⇓ ρ (offset-first .0) (search ring), ⇓ ρ (offset-first .1) (search ring))) }
 
-  pub days-in-order : (i k : ℕ) → i + k < entries w → day w i ⩽ day w (i + k)
-  days-in-order i zero h = let e : i + 0 ≡ i = omega arith in rw e (let ρ = day w i ∷ [] in ⇑ ρ (search ring) (omega arith))
-  days-in-order i (suc k) h =
-      let e : i + suc k ≡ suc (i + k) = omega arith in
-      rw e (≤-trans (days-in-order i k (omega arith)) (<→≤ (day-rises (i + k) (omega arith))))
-
-  pub moments-in-order : (i j : ℕ) → i ≤ j → j < entries w → holdsFrom w i ⩽ holdsFrom w j
-  unfolding holdsFrom
-  moments-in-order i j h k =
-      let e : i + (j - i) ≡ j = omega arith in
-      let o : day w i ⩽ day w j = rw e at (days-in-order i (j - i) (omega arith)) in
-      let ρ = day w i ∷ day w j ∷ offset w 0 ∷ offset w i ∷ offset w j ∷ pos i ∷ pos j ∷ [] in
-      ⇑ ρ (search ring depth 9) (omega (arith, ⇓ ρ o (search ring), ⇓ ρ (offset-is i (omega arith)) (search ring), ⇓ ρ (offset-is j k) (search ring)))
-
   -- a day and a second at least lie between two moments
   pub moment-later : (i : ℕ) → suc i < entries w → holdsFrom w i +ℤ pos 86401000 ⩽ holdsFrom w (suc i)
   unfolding holdsFrom
   moment-later i h =
       let ρ = day w i ∷ day w (suc i) ∷ offset w i ∷ offset w (suc i) ∷ [] in
       ⇑ ρ (search ring depth 9) (omega (arith, ⇓ ρ (day-rises i h) (search ring), ⇓ ρ (offset-next i h) (search ring)))
+
+  pub moments-apart : (i k : ℕ) → i + k < entries w → holdsFrom w i +ℤ pos 86401000 *ℤ pos k ⩽ holdsFrom w (i + k)
+  moments-apart i zero h = let e : i + 0 ≡ i = omega arith in rw e (let ρ = holdsFrom w i ∷ [] in ⇑ ρ (search ring) (omega arith))
+  moments-apart i (suc k) h =
+      let e : i + suc k ≡ suc (i + k) = omega arith in
+      let ρ = holdsFrom w i ∷ holdsFrom w (i + k) ∷ holdsFrom w (suc (i + k)) ∷ pos k ∷ pos (suc k) ∷ [] in
+      rw e (⇑ ρ (search ring) (omega (arith, ⇓ ρ (moments-apart i k (omega arith)) (search ring), ⇓ ρ (moment-later (i + k) (omega arith)) (search ring))))
+
+  pub moments-in-order : (i j : ℕ) → i ≤ j → j < entries w → holdsFrom w i ⩽ holdsFrom w j
+  moments-in-order i j h k =
+      let e : i + (j - i) ≡ j = omega arith in
+      let ρ = holdsFrom w i ∷ holdsFrom w j ∷ pos (j - i) ∷ [] in
+      ⇑ ρ (search ring) (omega (arith, ⇓ ρ (rw e at (moments-apart i (j - i) (omega arith))) (search ring)))

@@ -1,13 +1,16 @@
--- The entry used: an entry that does not hold has none after it that does, so that the last is found by bisection. Assumes nothing.
-use Prim.Native.Nat.{ℕ, _+_, _<_, _≤_}
+-- The entry used: an entry that does not hold has none after it that does, so that the last is found by bisection, and the entry used does not go back. Assumes
+-- nothing.
+use Prim.Native.Nat.{ℕ, suc, _+_, _<_, _≤_}
 use mathlib.Core.Path.{_≡_, sym}
 use mathlib.Core.Bool.{true, false}
 use mathlib.Core.List.{List}
 use native.Mathlib.Omega.{arith}
+use native.Mathlib.Decide.{decLt}
 use lib.IntN.{ℤ}
-use Rattle.whole.specs.Parts.{_≺_}
-use Rattle.whole.specs.Laws.{<-≤-trans}
-use Rattle.whole.specs.Solver.{le-no, no-le}
+use Rattle.whole.specs.Parts.{_⩽_, _≺_}
+use Rattle.whole.specs.Laws.{≤-trans, <-≤-trans}
+use Rattle.whole.specs.Booleans.{not-both}
+use Rattle.whole.specs.Solver.{le-yes, le-no, yes-le, no-le}
 use Rattle.whole.specs.Below.{Last, last-is, last-found}
 use Rattle.clock.specs.Leap.{leapLawful, entries, holdsFrom, holds, entryUsed}
 use Rattle.clock.specs.theory.Table.{some, moments-in-order}
@@ -31,6 +34,28 @@ not-later w t l i k h m e =
     let o = moments-in-order w l i k h m in
     let a : t ≺ holdsFrom w i = le-no {a = holdsFrom w i} {b = t} e in
     no-le {a = holdsFrom w k} {b = t} (<-≤-trans a o)
+
+-- what holds by then, holds later
+pub holds-on : (w : List ℤ) (t t′ : ℤ) (i : ℕ) → t ⩽ t′ → holds w t i ≡ true → holds w t′ i ≡ true
+unfolding holds
+holds-on w t t′ i h e = yes-le {a = holdsFrom w i} {b = t′} (≤-trans (le-yes {a = holdsFrom w i} {b = t} e) h)
+
+pub entry-goes-on : (w : List ℤ) (t t′ : ℤ) (i i′ : ℕ) → t ⩽ t′ → Used w t i → Used w t′ i′ → i ≤ i′
+entry-goes-on w t t′ i i′ h u u′ = go (decLt i′ i)
+  where
+    go : Dec (i′ < i) → i ≤ i′
+    go (no n) = omega arith
+    go (yes n) = not-both (holds-on w t t′ i h (u .here (omega arith))) (u′ .none-after i n (u .below))
+
+-- from the moment of entry i on, and before that of entry i + 1, entry i is used
+pub entry-between : (w : List ℤ) (t : ℤ) (i : ℕ) → leapLawful w ≡ true → i < entries w → holdsFrom w i ⩽ t → (suc i < entries w → t ≺ holdsFrom w (suc i)) → Used w t i
+unfolding holds
+entry-between w t i l m h k =
+    record {
+      below = m;
+      here = λ z. yes-le {a = holdsFrom w i} {b = t} h;
+      none-after = λ j p q. no-le {a = holdsFrom w j} {b = t} (<-≤-trans (k (omega arith)) (moments-in-order w l (suc i) j (omega arith) q));
+    }
 
 -- `low` holds by then, nothing from `high` on does
 pub record Bracket (w : List ℤ) (t : ℤ) (low high : ℕ) : Type 0 where

@@ -124,7 +124,7 @@ module _ (n : ℤ) where
   year-found = picked (ltZ n (newYear (yearOrNext n))) refl
 
 -- a day lies in one year only
-one-year : {n y z : ℤ} → newYear y ⩽ n → n ≺ newYear (z +ℤ pos 1) → y ⩽ z
+pub one-year : {n y z : ℤ} → newYear y ⩽ n → n ≺ newYear (z +ℤ pos 1) → y ⩽ z
 one-year {n} {y} {z} h k = ⊎-elim (λ (l : y ≤ℤ z). l) (λ (l : z <ℤ y). absurd (go l)) (≤-total y z)
   where
     go : z <ℤ y → ⊥

@@ -1,16 +1,17 @@
 -- Days, dates and the clock: the numbers of their answers and refusals fit a word. Assumes nothing.
-use mathlib.Core.Bool.{not, _&&_}
+use Prim.Native.Nat.{ℕ, _≤_}
+use mathlib.Core.Bool.{Bool, true, false, not, _&&_}
 use mathlib.Core.List.{List}
 use native.Mathlib.Omega.{arith}
 use lib.IntN.{ℤ}
-use Rattle.whole.specs.Floor.{floorMod-lt}
+use Rattle.whole.specs.Floor.{floorMod, floorMod-lt}
 use Rattle.times.specs.declared.Day.{Day}
 use Rattle.times.specs.declared.Second.{Second}
 use Rattle.dates.specs.declared.Date.{Date}
 use Rattle.dates.specs.Calendar.{valid, dayNumber}
 use Rattle.dates.specs.Answers.{hasDate, dateOf, dayOf}
-use Rattle.clock.specs.Leap.{leapLawful}
-use Rattle.clock.specs.Clock.{utc8, convertible, early, shownIn, shownOfMilli, milliIn}
+use Rattle.clock.specs.Leap.{leapLawful, inserted}
+use Rattle.clock.specs.Clock.{utc8, convertible, tai, early, reading, countIn, secondSaid, shownBy, shownIn}
 use Rattle.clock.specs.Answers.{leapJudged, clockJudged, milliOf, dayOfSecond, shownOf}
 use Rattle.answers.specs.Fits.{Fits, none, shownSize, answer, test, _and_}
 
@@ -24,6 +25,11 @@ unfolding dayOf
 day-fits d = test (not (valid d && hasDate (dayNumber d))) 6 tt and answer (omega arith)
 
 -- ---- the clock
+second-fits : (inserted : Bool) (rest : ℕ) → secondSaid inserted rest ≤ 60
+unfolding secondSaid
+second-fits true rest = omega arith
+second-fits false rest = omega arith
+
 module _ (leap : List ℤ) where
   pub leap-fits : Fits none (leapJudged leap)
   unfolding leapJudged
@@ -44,5 +50,7 @@ module _ (leap : List ℤ) where
 
     -- the millisecond of the day, and what is read off it, is less than a day
     pub shown-fits : Fits shownSize (shownOf leap s)
-    unfolding shownOf shownIn shownOfMilli
-    shown-fits = clock-fits and answer (omega (arith, floorMod-lt (milliIn leap s utc8 .0) 86400000 (omega arith)))
+    unfolding shownOf shownIn shownBy countIn reading
+    shown-fits =
+        let rest = floorMod (countIn leap s utc8 .0) 86400000 in
+        clock-fits and answer (omega (arith, floorMod-lt (countIn leap s utc8 .0) 86400000 (omega arith), second-fits (inserted leap (tai s)) rest))

@@ -15,7 +15,8 @@ use Rattle.whole.specs.Solver.{⇑, ⇓, ring, yes-lt}
 use Rattle.whole.specs.Tabulated.{tabulate}
 use Rattle.times.specs.declared.Second.{Second}
 use Rattle.clock.specs.Leap.{leapLawful, offset, entryUsed}
-use Rattle.clock.specs.Clock.{tai, localMilli, reading, milliIn, dayOfMilli, dayIn}
+use Rattle.clock.specs.Clock.{tai, localMilli, dayOfMilli, dayIn}
+use Rattle.clock.specs.theory.Inserted.{later, count-is}
 use Rattle.clock.specs.theory.Sizes.{offset-used-small}
 use Rattle.series.specs.declared.Body.the-variants.{Moon}
 use Rattle.series.specs.Series.{Series, series, valueAt, lastSecond}
@@ -34,19 +35,20 @@ use Rattle.sui.specs.theory.Speed.{rises-at-most-over}
 
 -- ---- a day ends in 129,600 seconds: offsets are small
 pub day-ends : (leap : List ℤ) → leapLawful leap ≡ true → (a b : Second) → a .0 +ℤ pos 129600 ⩽ b .0 → (zone : ℤ) → dayIn leap a zone .0 <ℤ dayIn leap b zone .0
-unfolding dayIn dayOfMilli milliIn reading localMilli tai
+unfolding dayIn dayOfMilli localMilli tai
 day-ends leap l a b h zone =
-    let o = offset leap (entryUsed leap (tai a)) in
-    let p = offset leap (entryUsed leap (tai b)) in
+    let o = offset leap (entryUsed leap (later (tai a))) in
+    let p = offset leap (entryUsed leap (later (tai b))) in
     let m = pos 1000 *ℤ a .0 -ℤ pos 32184 -ℤ pos 1000 *ℤ o +ℤ pos 60000 *ℤ zone in
     let n = pos 1000 *ℤ b .0 -ℤ pos 32184 -ℤ pos 1000 *ℤ p +ℤ pos 60000 *ℤ zone in
     let ρ = a .0 ∷ b .0 ∷ o ∷ p ∷ zone ∷ [] in
-    let small = offset-used-small leap (tai a) l .within in
-    let small′ = offset-used-small leap (tai b) l .within in
-    let later : m +ℤ pos 1 *ℤ pos 86400000 ⩽ n = ⇑ ρ (search ring depth 12) (omega (arith, ⇓ ρ h (search ring depth 9), ⇓ ρ small (search ring depth 9), ⇓ ρ small′ (search ring depth 9))) in
-    let up = floorDiv-mono {y = m +ℤ pos 1 *ℤ pos 86400000} {z = n} 86400000 (omega arith) later in
+    let small = offset-used-small leap (later (tai a)) l .within in
+    let small′ = offset-used-small leap (later (tai b)) l .within in
+    let on : m +ℤ pos 1 *ℤ pos 86400000 ⩽ n = ⇑ ρ (search ring depth 12) (omega (arith, ⇓ ρ h (search ring depth 9), ⇓ ρ small (search ring depth 9), ⇓ ρ small′ (search ring depth 9))) in
+    let up = floorDiv-mono {y = m +ℤ pos 1 *ℤ pos 86400000} {z = n} 86400000 (omega arith) on in
     let σ = floorDiv m 86400000 ∷ floorDiv n 86400000 ∷ [] in
-    ⇑ σ (search ring depth 9) (omega (arith, ⇓ σ (rw (floorDiv-add m (pos 1) 86400000 (omega arith)) at up) (search ring depth 9)))
+    rw (count-is leap l a zone, count-is leap l b zone)
+    (⇑ σ (search ring depth 9) (omega (arith, ⇓ σ (rw (floorDiv-add m (pos 1) 86400000 (omega arith)) at up) (search ring depth 9))))
 
 -- ---- new moons are more than 129,600 seconds apart
 module _ (start : ℤ) (coefs : List ℤ) (e : Accepted (series Moon start coefs)) (k : ℕ) (h : suc k < turnsOf (series Moon start coefs)) where

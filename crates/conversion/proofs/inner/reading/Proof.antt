@@ -1,6 +1,5 @@
 -- `conversion::inner::reading` meets its contract. Assumes nothing.
 use mathlib.Core.Path.{_≡_, _∙_}
-use mathlib.Core.Bool.{false}
 use borrow.Author.Needs.{needs}
 use mir.Syntax.{w64}
 use mir.Val.{toZ, ofZ}
@@ -40,14 +39,31 @@ local-milli-requires c κs =
     let start = c .before .before .before in
     rw (c .before .before .tai-of .ensures, at-offset c, toZ-ofZ (start .fits .zone)) (tai-small (start .args .second) (start .pre .in-range), (offset-used-small (start .args .leap .now) (tai (start .args .second)) (start .pre .lawful-table), start .pre .zone-small))
 
+inserted-requires : tie.Need-inserted-requires
+inserted-requires c κs =
+    let offset = c .before in
+    let entry = offset .before in
+    let start = entry .before .before in
+    rw (entry .before .tai-of .ensures) (start .pre .lawful-table, (tai-small (start .args .second) (start .pre .in-range), at-entry entry))
+
 returns : tie.Need-returns
 unfolding reading
 returns c =
-    let start = c .before .before .before .before in
-    let read = rw (c .before .before .before .tai-of .ensures, at-offset (c .before), toZ-ofZ (start .fits .zone)) at (c .local-milli .ensures) in
-    λ t. record { milli = read t; inserted = false }
+    let local = c .before in
+    let offset = local .before in
+    let started = offset .before .before in
+    let start = started .before in
+    let milli = rw (started .tai-of .ensures, at-offset offset, toZ-ofZ (start .fits .zone)) at (local .local-milli .ensures) in
+    let inside = rw (started .tai-of .ensures) at (c .inserted .ensures) in
+    λ t. record { milli = milli t; inserted = inside t }
 
 pub reading-spec : {M : Type 1} → statement M
 reading-spec =
     tie.close
-    (tie.spec tai-of-requires entry-used-requires offset-at-requires local-milli-requires returns)
+    (tie.spec
+    tai-of-requires
+    entry-used-requires
+    offset-at-requires
+    local-milli-requires
+    inserted-requires
+    returns)

@@ -16,7 +16,7 @@ use Rattle.whole.specs.Booleans.{both}
 use Rattle.whole.specs.Solver.{⇑, ⇓, ring, le-yes}
 use Rattle.times.specs.declared.Second.{Second}
 use Rattle.times.specs.declared.Milli.{Milli}
-use Rattle.clock.specs.Clock.{Readable, milliIn, dayOfMilli, dayIn}
+use Rattle.clock.specs.Clock.{Readable, countIn, dayOfMilli, dayIn}
 use Rattle.clock.specs.Theorems.{goes-on-holding}
 use Rattle.clock.specs.theory.Sizes.{second-small}
 use Rattle.series.specs.Series.{Series, series}
@@ -59,9 +59,9 @@ by-readable c =
       zone-small = r .zone-small;
     }
 
--- ---- the millisecond of the later one
+-- ---- the count at the later one
 abbrev Read : Type 0
-Read = tie.After-milli-in
+Read = tie.After-count-in
 
 abbrev near-of : Read → Near
 near-of c = c .before .before
@@ -69,10 +69,10 @@ near-of c = c .before .before
 at-by : (c : tie.After-struct-told) → toZ w64 (ofZ w64 (c .before .enclose .result .by)) ≡ c .before .enclose .result .by
 at-by c = back (c .before .enclose .result .by) (c .struct-told .given .1 .0 .1)
 
-milli-is : (c : Read) → (let near = near-of c in c .milli-in .result ≡ milliIn (near .before .args .leap .now) (by-of near) (near .before .args .zone))
-milli-is c = let fz = near-of c .before .fits .zone in rw (at-by (c .before), toZ-ofZ fz) at (c .milli-in .ensures)
+count-is : (c : Read) → (let near = near-of c in c .count-in .result ≡ countIn (near .before .args .leap .now) (by-of near) (near .before .args .zone))
+count-is c = let fz = near-of c .before .fits .zone in rw (at-by (c .before), toZ-ofZ fz) at (c .count-in .ensures)
 
-day-read : (leap : List ℤ) (s : Second) (zone : ℤ) → dayOfMilli (milliIn leap s zone) ≡ dayIn leap s zone
+day-read : (leap : List ℤ) (s : Second) (zone : ℤ) → dayOfMilli (countIn leap s zone) ≡ dayIn leap s zone
 unfolding dayIn
 day-read leap s zone = refl
 
@@ -84,8 +84,8 @@ gap c d e = let near = c .before .before .before .before in rw (at-by (c .before
 enclose-requires : tie.Need-enclose-requires
 enclose-requires c κs = search needs
 
-milli-in-requires : tie.Need-milli-in-requires
-milli-in-requires c κs = let fz = c .before .before .fits .zone in rw (at-by c, toZ-ofZ fz) (by-readable (c .before))
+count-in-requires : tie.Need-count-in-requires
+count-in-requires c κs = let fz = c .before .before .fits .zone in rw (at-by c, toZ-ofZ fz) (by-readable (c .before))
 
 subtract-requires : tie.Need-subtract-requires
 subtract-requires c κs =
@@ -118,13 +118,13 @@ returns c =
     let after = near .enclose .result .after in
     let by = near .enclose .result .by in
     let k : taken .subtract .result ≡ by -ℤ after = gap (taken .before) (taken .subtract .result) (taken .subtract .ensures) in
-    let rest = floorMod (milliIn leap (by-of near) zone .0) 86400000 in
+    let rest = floorMod (countIn leap (by-of near) zone .0) 86400000 in
     let test : told .have-passed .result ≡ (leZ (by -ℤ after) (pos 86400) && leZ (pos 1000 *ℤ (by -ℤ after)) (pos rest)) =
-    (rw (back (taken .subtract .result) (taken .subtract .ok)) at (told .have-passed .ensures)) ∙ ap₂ (λ (z : ℤ) (m : Milli). leZ z (pos 86400) && leZ (pos 1000 *ℤ z) (pos (floorMod (m .0) 86400000))) k (milli-is read) in
+    (rw (back (taken .subtract .result) (taken .subtract .ok)) at (told .have-passed .ensures)) ∙ ap₂ (λ (z : ℤ) (m : Milli). leZ z (pos 86400) && leZ (pos 1000 *ℤ z) (pos (floorMod (m .0) 86400000))) k (count-is read) in
     let passed : pos 1000 *ℤ (by -ℤ after) ⩽ pos rest = le-yes (both (leZ (by -ℤ after) (pos 86400)) (leZ (pos 1000 *ℤ (by -ℤ after)) (pos rest)) (sym test ∙ c .before .if1 .taken) .1) in
     let ρ = by ∷ after ∷ secondOfMark (series-of start) (start .args .index) ∷ [] in
     let close : by -ℤ secondOfMark (series-of start) (start .args .index) ⩽ by -ℤ after = ⇑ ρ (search ring depth 9) (omega (arith, ⇓ ρ (enclosed near .comes-after) (search ring depth 9))) in
-    c .day-of-milli .ensures ∙ ap dayOfMilli (milli-is read) ∙ day-read leap (by-of near) zone
+    c .day-of-milli .ensures ∙ ap dayOfMilli (count-is read) ∙ day-read leap (by-of near) zone
     ∙ of-one-day leap (start .pre .0 .lawful-table) (mark-of start) (by-of near) (enclosed near .comes-by) zone (by -ℤ after) close passed
 
 locate-requires : tie.Need-locate-requires
@@ -153,7 +153,7 @@ day-of-mark-spec =
     tie.close
     (tie.spec
     enclose-requires
-    milli-in-requires
+    count-in-requires
     subtract-requires
     have-passed-requires
     day-of-milli-requires
