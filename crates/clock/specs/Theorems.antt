@@ -20,16 +20,15 @@ use Rattle.times.specs.declared.Milli.{Milli}
 use Rattle.times.specs.declared.Second.{Second}
 use Rattle.dates.specs.Answers.{hasDate}
 use Rattle.clock.specs.declared.ShownTime.{ShownTime}
-use Rattle.clock.specs.Leap.{leapLawful, entries, day, holdsFrom, entryUsed, inserted}
+use Rattle.clock.specs.Leap.{leapLawful, entries, day, holdsFrom, inserted}
 use Rattle.clock.specs.Clock.{utc8, convertible, tai, early, reading, milliIn, readOff, countIn, dayOfMilli, dayIn, shownBy, shownIn}
 use Rattle.clock.specs.Order.{shownFirst}
 use Rattle.clock.specs.Answers.{clockJudged, milliOf, dayOfSecond, shownOf}
-use Rattle.clock.specs.theory.Used.{used, holds-on}
-use Rattle.clock.specs.theory.Inserted.{not-yet, none-inserts, by-next}
+use Rattle.clock.specs.theory.Used.{holds-on}
 use Rattle.clock.specs.theory.Sizes.{reading-has-date}
 use Rattle.clock.specs.theory.Judged.{readable, first-holds, holds-first}
 use Rattle.clock.specs.theory.Counts.{tai-goes-on, count-goes-on}
-use Rattle.clock.specs.theory.Around.{day-stays}
+use Rattle.clock.specs.theory.Around.{Inside, inside-or-not, day-stays}
 use Rattle.clock.specs.theory.Around as around
 use Rattle.clock.specs.theory.Shown.{shown-first, not-both-shown-first, not-before-itself, said-before, said-inside}
 
@@ -100,47 +99,41 @@ pub record Inserting (w : List ℤ) (before s after : Second) : Type 0 where
   pub inserts : Insertion w i before s after
 
 pub inserted-by-an-entry : (w : List ℤ) → leapLawful w ≡ true → (before s after : Second) → before .0 +ℤ pos 1 ≡ s .0 → s .0 +ℤ pos 1 ≡ after .0 → inserted w (tai s) ≡ true → Inserting w before s after
-inserted-by-an-entry w l before s after b a e =
-    let t = tai s in
-    let i = entryUsed w t in
-    let u = used w t l in
-    let ρ = holdsFrom w (suc i) ∷ t ∷ [] in
-    by-next w l t i u
-    (λ m h. record { i = i; inserts = record { lawful = l; listed = m; from = ⇑ ρ (search ring depth 9) (omega (arith, ⇓ ρ h (search ring depth 9))); to = not-yet w l t i u m; next = b; last = a } })
-    (λ n. not-both e (none-inserts w l t i u n))
+inserted-by-an-entry w l before s after b a e = inside-or-not w l s of (λ f. not-both e f)
+  where
+    of : (i : ℕ) → Inside w i s → Inserting w before s after
+    of i here =
+        let ρ = holdsFrom w (suc i) ∷ tai s ∷ [] in
+        record { i = i; inserts = record { lawful = l; listed = here .listed; from = ⇑ ρ (search ring depth 9) (omega (arith, ⇓ ρ (here .reached) (search ring depth 9))); to = here .to; next = b; last = a } }
 
 -- it is shown as the second before it, which is a fifty-ninth, but for the second, which is 60
 abbrev pub sixtieth : ShownTime → ShownTime
 sixtieth t = record { date = t .date; hour = t .hour; minute = t .minute; second = 60; millisecond = t .millisecond }
 
 module _ {w : List ℤ} {i : ℕ} {before s after : Second} (here : Insertion w i before s after) where
-  abbrev l : leapLawful w ≡ true
-  l = here .lawful
-
-  abbrev m : suc i < entries w
-  m = here .listed
-
-  reached : holdsFrom w (suc i) ⩽ tai s +ℤ pos 1000
-  reached = let ρ = holdsFrom w (suc i) ∷ tai s ∷ [] in ⇑ ρ (search ring depth 9) (omega (arith, ⇓ ρ (here .from) (search ring depth 9)))
+  inside : Inside w i s
+  inside =
+      let ρ = holdsFrom w (suc i) ∷ tai s ∷ [] in
+      record { lawful = here .lawful; listed = here .listed; reached = ⇑ ρ (search ring depth 9) (omega (arith, ⇓ ρ (here .from) (search ring depth 9))); to = here .to }
 
   pub insertion-is-inserted : inserted w (tai s) ≡ true
-  insertion-is-inserted = around.is-inserted w l i m s reached (here .to)
+  insertion-is-inserted = around.is-inserted inside
 
   pub inserted-second-is-the-sixtieth : (zone : ℤ) → (shownIn w before zone .second ≡ 59) × (shownIn w s zone ≡ sixtieth (shownIn w before zone))
-  inserted-second-is-the-sixtieth zone = (said-before w l i m s reached (here .to) before (here .next) zone, said-inside w l i m s reached (here .to) before (here .next) zone)
+  inserted-second-is-the-sixtieth zone = (said-before inside before (here .next) zone, said-inside inside before (here .next) zone)
 
   -- neither is early: entry i holds by then, a day before at the latest
   pub not-early-before : early w before ≡ false
-  not-early-before = holds-first w before (around.first-holds-before w l i m s reached (here .to) before (here .next))
+  not-early-before = holds-first w before (around.first-holds-before inside before (here .next))
 
   -- its day is that of the second before it, in every zone, and that of the second after it where the zone's midnight is not UTC's
   pub inserted-second-keeps-the-day : (zone : ℤ) → (dayIn w s zone ≡ dayIn w before zone) × (0 < floorMod zone 1440 → dayIn w s zone ≡ dayIn w after zone)
   unfolding dayIn dayOfMilli
   inserted-second-keeps-the-day zone = (
-    λ t. record { 0 = floorDiv (sym (around.count-before w l i m s reached (here .to) before (here .next) zone) t) 86400000 },
+    λ t. record { 0 = floorDiv (sym (around.count-before inside before (here .next) zone) t) 86400000 },
     λ h t. record {
-      0 = (around.day-stays-inside w l i m s reached (here .to) zone h
-          ∙ ap (λ (c : ℤ). floorDiv c 86400000) (around.milli-is-later w l i m s reached (here .to) zone ∙ sym (around.count-after w l i m s reached (here .to) after (here .last) zone))) t;
+      0 = (around.day-stays-inside inside zone h
+          ∙ ap (λ (c : ℤ). floorDiv c 86400000) (around.milli-is-later inside zone ∙ sym (around.count-after inside after (here .last) zone))) t;
     },
   )
 
@@ -148,8 +141,8 @@ module _ {w : List ℤ} {i : ℕ} {before s after : Second} (here : Insertion w 
   pub inserted-second-ends-the-day : (dayIn w s (pos 0) .0 ≡ day w (suc i) -ℤ pos 1) × (dayIn w after (pos 0) .0 ≡ day w (suc i))
   unfolding dayIn dayOfMilli
   inserted-second-ends-the-day = (
-    around.ends-the-day w l i m s reached (here .to),
-    around.begins-the-day w l i m s reached (here .to) after (here .last),
+    around.ends-the-day inside,
+    around.begins-the-day inside after (here .last),
   )
 
 -- ---- every converted day has a date; the zones -720 to 840 are within 1,000 minutes

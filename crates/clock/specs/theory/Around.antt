@@ -66,8 +66,26 @@ zone-midnight d zone =
     floorMod-unique (pos 1440 *ℤ d +ℤ zone) (d +ℤ floorDiv zone 1440) 1440 (floorMod zone 1440) (floorMod-lt zone 1440 (omega arith))
     (⇑ ρ (search ring depth 9) (omega (arith, ⇓ ρ (floorDiv-floorMod zone 1440 (omega arith)) (search ring depth 9))))
 
--- ---- entry i + 1 inserts second s
-module _ (w : List ℤ) (l : leapLawful w ≡ true) (i : ℕ) (m : suc i < entries w) (s : Second) (reached : holdsFrom w (suc i) ⩽ later (tai s)) (to : tai s ≺ holdsFrom w (suc i)) where
+-- ---- entry i + 1 inserts second s: it does not hold then, and holds a second later
+pub record Inside (w : List ℤ) (i : ℕ) (s : Second) : Type 0 where
+  pub lawful : leapLawful w ≡ true
+  pub listed : suc i < entries w
+  pub reached : holdsFrom w (suc i) ⩽ later (tai s)
+  pub to : tai s ≺ holdsFrom w (suc i)
+
+module _ {w : List ℤ} {i : ℕ} {s : Second} (here : Inside w i s) where
+  abbrev l : leapLawful w ≡ true
+  l = here .lawful
+
+  abbrev m : suc i < entries w
+  m = here .listed
+
+  abbrev reached : holdsFrom w (suc i) ⩽ later (tai s)
+  reached = here .reached
+
+  abbrev to : tai s ≺ holdsFrom w (suc i)
+  to = here .to
+
   pub is-inserted : inserted w (tai s) ≡ true
   is-inserted = inside w (tai s) i m reached to
 
@@ -166,22 +184,22 @@ module _ (w : List ℤ) (l : leapLawful w ≡ true) (i : ℕ) (m : suc i < entri
 
 -- ---- any second
 module _ (w : List ℤ) (l : leapLawful w ≡ true) (s : Second) where
-  abbrev i : ℕ
-  i = entryUsed w (tai s)
+  -- it is an inserted one, or it is not
+  pub inside-or-not : {X : Type 0} → ((i : ℕ) → Inside w i s → X) → (inserted w (tai s) ≡ false → X) → X
+  inside-or-not f g =
+      let i = entryUsed w (tai s) in
+      let u = used w (tai s) l in
+      by-next w l (tai s) i u
+      (λ m h. f i (record { lawful = l; listed = m; reached = h; to = not-yet w l (tai s) i u m }))
+      (λ n. g (none-inserts w l (tai s) i u n))
 
-  pub plain-count : (zone : ℤ) → inserted w (tai s) ≡ false → countIn w s zone .0 ≡ milliIn w s zone .0
+  plain-count : (zone : ℤ) → inserted w (tai s) ≡ false → countIn w s zone .0 ≡ milliIn w s zone .0
   unfolding countIn milliIn readOff reading
   plain-count zone e = rw e
 
   pub day-stays : (zone : ℤ) → 0 < floorMod zone 1440 → floorDiv (countIn w s zone .0) 86400000 ≡ floorDiv (milliIn w s zone .0) 86400000
-  day-stays zone some =
-      by-next w l (tai s) i (used w (tai s) l)
-      (λ m h. day-stays-inside w l i m s h (not-yet w l (tai s) i (used w (tai s) l) m) zone some)
-      (λ n. ap (λ (c : ℤ). floorDiv c 86400000) (plain-count zone (none-inserts w l (tai s) i (used w (tai s) l) n)))
+  day-stays zone some = inside-or-not (λ i here. day-stays-inside here zone some) (λ e. ap (λ (c : ℤ). floorDiv c 86400000) (plain-count zone e))
 
   -- an inserted second ends a minute
   pub ends-the-minute : inserted w (tai s) ≡ true → (zone : ℤ) → 59000 ≤ floorMod (countIn w s zone .0) 86400000 % 60000
-  ends-the-minute e zone =
-      by-next w l (tai s) i (used w (tai s) l)
-      (λ m h. at-the-end w l i m s h (not-yet w l (tai s) i (used w (tai s) l) m) zone)
-      (λ n. not-both e (none-inserts w l (tai s) i (used w (tai s) l) n))
+  ends-the-minute e zone = inside-or-not (λ i here. at-the-end here zone) (λ f. not-both e f)
