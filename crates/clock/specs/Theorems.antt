@@ -13,7 +13,7 @@ use Rattle.whole.specs.Laws.{≤-total, ≤-antisymm}
 use Rattle.whole.specs.Booleans.{not-both}
 use Rattle.whole.specs.Floor.{floorDiv, floorMod, floorDiv-mono}
 use Rattle.whole.specs.Solver.{⇑, ⇓, ring}
-use Rattle.whole.specs.Ranges.{Within, within, bounds}
+use Rattle.whole.specs.Ranges.{Within}
 use Rattle.refusals.specs.Verdict.{answered, answered-says}
 use Rattle.times.specs.declared.Day.{Day}
 use Rattle.times.specs.declared.Milli.{Milli}
@@ -26,7 +26,7 @@ use Rattle.clock.specs.Order.{shownFirst}
 use Rattle.clock.specs.Answers.{clockJudged, milliOf, dayOfSecond, shownOf}
 use Rattle.clock.specs.theory.Used.{holds-on}
 use Rattle.clock.specs.theory.Sizes.{reading-has-date}
-use Rattle.clock.specs.theory.Judged.{readable, first-holds, holds-first}
+use Rattle.clock.specs.theory.Judged.{readable-utc8, first-holds, holds-first}
 use Rattle.clock.specs.theory.Counts.{tai-goes-on, count-goes-on}
 use Rattle.clock.specs.theory.Around.{Inside, inside-or-not, day-stays}
 use Rattle.clock.specs.theory.Around as around
@@ -42,7 +42,7 @@ unfolding dayOfSecond
 answered-days-never-go-back w s s′ h d d′ e e′ =
     let a = answered-says (clockJudged w s) e in
     let b = answered-says (clockJudged w s′) e′ in
-    let lawful = readable w s utc8 (a .0) (within (search bounds) tt) .lawful-table in
+    let lawful = readable-utc8 w s (a .0) .lawful-table in
     rw (a .1, b .1) at (days-never-go-back w lawful s s′ h utc8)
 
 -- ---- the time shown never goes back, and no two seconds are shown alike
@@ -62,7 +62,7 @@ unfolding shownOf
 answered-shown-never-goes-back w s s′ h t t′ e e′ =
     let a = answered-says (clockJudged w s) e in
     let b = answered-says (clockJudged w s′) e′ in
-    let lawful = readable w s utc8 (a .0) (within (search bounds) tt) .lawful-table in
+    let lawful = readable-utc8 w s (a .0) .lawful-table in
     rw (a .1, b .1) at (shown-never-goes-back w lawful s s′ h utc8)
 
 -- ---- days stay as they were: in a zone whose midnight is not UTC's, the day is that of the millisecond count, whether a second is inserted or not
@@ -75,7 +75,7 @@ unfolding dayOfSecond milliOf floorMod
 answered-days-stay w s d m e f =
     let a = answered-says (clockJudged w s) e in
     let b = answered-says (clockJudged w s) f in
-    let lawful = readable w s utc8 (a .0) (within (search bounds) tt) .lawful-table in
+    let lawful = readable-utc8 w s (a .0) .lawful-table in
     sym (a .1) ∙ days-stay w lawful s utc8 (omega arith) ∙ ap dayOfMilli (b .1)
 
 -- ---- any other second is read as document 01 says: the day of its millisecond count, and the time of it
@@ -153,7 +153,7 @@ pub answered-day-has-date : (w : List ℤ) (s : Second) (d : Day) → dayOfSecon
 unfolding dayOfSecond
 answered-day-has-date w s d e =
     let a = answered-says (clockJudged w s) e in
-    let r = readable w s utc8 (a .0) (within (search bounds) tt) in
+    let r = readable-utc8 w s (a .0) in
     rw (a .1) at (converted-day-has-date w (r .lawful-table) s (r .in-range) utc8 (r .zone-small))
 
 -- ---- what is not early, is not early later

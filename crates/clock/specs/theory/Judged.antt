@@ -4,11 +4,11 @@ use mathlib.Core.Bool.{true, false, not}
 use mathlib.Core.List.{List}
 use borrow.Author.Tests.{not-false}
 use lib.IntN.{ℤ}
-use Rattle.whole.specs.Ranges.{Within}
+use Rattle.whole.specs.Ranges.{Within, within, bounds}
 use Rattle.refusals.specs.Verdict.{accepted, _before_, refuseWhen, before-accepted, refuseWhen-accepted}
 use Rattle.times.specs.declared.Second.{Second}
 use Rattle.clock.specs.Leap.{leapLawful, holds}
-use Rattle.clock.specs.Clock.{convertible, tai, early, Readable}
+use Rattle.clock.specs.Clock.{utc8, convertible, tai, early, Readable}
 use Rattle.clock.specs.Answers.{leapJudged, clockJudged}
 
 pub lawful-known : (w : List ℤ) → leapJudged w ≡ accepted → leapLawful w ≡ true
@@ -28,6 +28,10 @@ readable w s zone e z =
       not-early = refuseWhen-accepted (early w s) 7 (b .1);
       zone-small = z;
     }
+
+-- in UTC+8
+pub readable-utc8 : (w : List ℤ) (s : Second) → clockJudged w s ≡ accepted → Readable w s utc8
+readable-utc8 w s e = readable w s utc8 e (within (search bounds) tt)
 
 -- what is not early has a first entry that holds, and the other way round
 pub first-holds : (w : List ℤ) (s : Second) → early w s ≡ false → holds w (tai s) 0 ≡ true
