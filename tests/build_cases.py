@@ -1,5 +1,5 @@
 #!/usr/bin/env python3
-"""Writes the cases of crates/build_cases: the inputs under data/, their names into args, and what an independent build says of them into stdout: by bisection
+"""Writes the cases of crates/build_cases: the inputs under data/, zones and names into args, and what an independent build says of them into stdout: by bisection
 (bench/reference.py) and the month rule of tests/sui_real.py, over whole numbers of any size. The gate runs the proved program over the inputs and compares. The
 real series are those of crates/sui_real.
 
@@ -9,6 +9,7 @@ build_cases.py --cut FILE SUN MOON LEAP FIRST COUNT   the same with no more segm
 """
 import datetime
 import os
+import re
 import struct
 import sys
 
@@ -32,19 +33,19 @@ def parts(data):
     return (*given[:2], *reference.sections(given[2:]))
 
 
-def listed(table, sun, moon):
+def listed(table, sun, moon, zone=480):
     """The leap entries, and index and day of every mark of the Sun and of the Moon."""
     entries = reference.judge_leap(table)
     bodies = [(s, b, reference.judge(s, b[1], b[3])) for s, b in zip((sun, moon), reference.BODIES)]
     seconds = [[(j, t) for j, t in reference.marks(s[0], cs, b[1], b[2])] for s, b, cs in bodies]
     if any(1000 * t - 32184 < 1000 * (86400 * entries[0][0] + entries[0][1]) for marks in seconds for _, t in marks):
         raise reference.Refused(7)
-    return entries, [[(j, sui_real.day_of(entries, t)) for j, t in marks] for marks in seconds]
+    return entries, [[(j, sui_real.day_of(entries, t, zone)) for j, t in marks] for marks in seconds]
 
 
-def file_of(first, count, table, sun, moon):
+def file_of(first, count, table, sun, moon, zone=480):
     """The bytes of the file."""
-    entries, days = listed(table, sun, moon)
+    entries, days = listed(table, sun, moon, zone)
     if not 1 <= count <= 128:
         raise reference.Refused(8)
     suis = [(year, sui_real.months(year, *days)) for year in range(first, first + count)]
@@ -60,10 +61,18 @@ def refusal(r):
     return b'R %s\n' % b' '.join(b'%d' % n for n in r.args)
 
 
-def built(data):
+def zone_of(text):
+    """The zone that a program's argument says: one decimal word in range."""
+    zone = int(text) if re.fullmatch('[+-]?[0-9]+', text) else 841
+    sui_real.judge_zone(zone)
+    return zone
+
+
+def built(data, zone='480'):
     """The bytes of the file, or one line."""
     try:
-        return file_of(*parts(data))
+        minutes = zone_of(zone)
+        return file_of(*parts(data), minutes)
     except reference.Refused as r:
         return refusal(r)
 
@@ -136,6 +145,14 @@ CASES = [
     ('r10', asked(2000, 2, leap((-400, 32)), YEAR, moons(30.4368))),
 ]
 
+# other zones, by the text of the argument: UTC+7, where the new year of 1985 is another; both ends; what is no zone, before 13 and before the Sun's 4
+ZONED = [
+    ('420', 'real_1985'), ('+0420', 'real_1985'), ('420', 'real_2033'), ('0', 'real_1985'), ('-720', 'real_1985'), ('840', 'real_1985'),
+    ('420', 'r8_count_0'), ('420', 'r13_empty'),
+    ('841', 'real_1985'), ('-721', 'real_1985'), ('9223372036854775807', 'real_1985'), ('-9223372036854775808', 'real_1985'), ('9223372036854775808', 'real_1985'),
+    ('420 0', 'real_1985'), ('+7:00', 'real_1985'), ('UTC+7', 'real_1985'), ('841', 'r13_empty'), ('841', 'r1'), ('841', 'r4_0'),
+]
+
 
 def needed(given, half, first, count):
     """The segments of a series from the middle of November before the first sui to the end of January behind the last one."""
@@ -163,18 +180,24 @@ def main():
         sample = built(f.read())
     with open(os.path.join(here, 'crates', 'show_cases', 'data', 'sample'), 'wb') as f:
         f.write(sample)
-    names, expected = [], b''
+    args, expected = [], b''
     for name, data in CASES:
         with open(os.path.join(crate, 'data', name), 'wb') as f:
             f.write(data)
-        names.append(name)
-        result = built(data)
+    for zone, name in [('480', name) for name, _ in CASES] + ZONED:
+        args += [zone, name]
+        result = built(dict(CASES)[name], zone)
+        expected += b'# %s %s\n' % (zone.encode(), name.encode()) + result
+        if zone != '480':
+            continue
         # what the name says: the number of a refusal, or a file
         number = name[1:].split('_')[0]
         assert result.split()[:2] == [b'R', number.encode()] if number.isdigit() else not result.startswith(b'R '), (name, result)
-        expected += b'# %s\n' % name.encode() + result
+    files = {zone: built(dict(CASES)['real_1985'], zone) for zone in ('480', '420', '+0420')}
+    assert files['480'] != files['420'] == files['+0420'] and files['420'][:1] != b'R'
+    assert all(built(dict(CASES)[name], zone) == b'R 15\n' for zone, name in ZONED[8:])
     with open(os.path.join(crate, 'args'), 'w') as f:
-        f.write(''.join(n + '\n' for n in names))
+        f.write(''.join(word + '\n' for word in args))
     with open(os.path.join(crate, 'stdout'), 'wb') as f:
         f.write(expected)
 

@@ -37,17 +37,17 @@ def kept(first, count, before, after):
     return [y for y in range(first, first + count) if sui_real.sui_days(y, *before) == sui_real.sui_days(y, *after)]
 
 
-def rebuilt(old, before, after):
+def rebuilt(old, before, after, zone=480):
     """The years kept, and the bytes of the new file, from leap words, Sun and Moon before and after."""
     first, count = years_of(old)
     try:
-        same = build_cases.file_of(first, count, *before) == old
+        same = build_cases.file_of(first, count, *before, zone) == old
     except reference.Refused:
         same = False
     if not same:
         raise reference.Refused(13)
-    file = build_cases.file_of(first, count, *after)
-    return kept(first, count, build_cases.listed(*before)[1], build_cases.listed(*after)[1]), file
+    file = build_cases.file_of(first, count, *after, zone)
+    return kept(first, count, build_cases.listed(*before, zone)[1], build_cases.listed(*after, zone)[1]), file
 
 
 def lines(old, years):
@@ -55,11 +55,12 @@ def lines(old, years):
     return b''.join(b'%d %s\n' % (y, b'kept' if y in years else b'made') for y in range(first, first + count))
 
 
-def printed(old, old_input, new_input):
+def printed(zone, old, old_input, new_input):
     """The lines and the new file, or the line of a refusal."""
     try:
+        minutes = build_cases.zone_of(zone)
         before, after = build_cases.parts(old_input)[2:], build_cases.parts(new_input)[2:]
-        years, file = rebuilt(old, before, after)
+        years, file = rebuilt(old, before, after, minutes)
         return lines(old, years) + file
     except reference.Refused as r:
         return build_cases.refusal(r)
@@ -249,7 +250,7 @@ def real_cases():
     write_run(real, args + ['entry'], expected)
 
 
-# ---- small inputs: each case an old file, its input and a new input
+# ---- small inputs: each case a zone, an old file, its input and a new input
 
 # new moons of which the third is at the first second of a day, with offset 32; with 33 it is the day before
 SECOND = 86400 * 39 - 28800 + 65
@@ -267,7 +268,7 @@ def small_cases():
     base = asked(2000, 1, *BASE)
     old = build_cases.built(base)
     given = {
-        'input': base, 'file': old,
+        'input': base, 'file': old, 'file_7': build_cases.built(base, '420'),
         # what is built from another input; damaged: a month too long, too short a file, too long a one, the longest and one byte more; of another year
         'other_file': build_cases.built(cases['even']),
         'damaged': old[:-1] + bytes([old[-1] + 1]), 'shorter': old[:-1], 'longer': old + b'\0', 'empty': b'', 'too_long': old + bytes(16141 - len(old)),
@@ -282,11 +283,13 @@ def small_cases():
     for name, data in given.items():
         write(small, name, data)
     args, expected = [], b''
-    for names in CASES:
-        assert len(names.split()) == 3
-        args += names.split()
-        expected += b'# %s\n' % names.encode() + printed(*(given[n] for n in names.split()))
-    assert set(args) == set(given), set(given) - set(args)
+    assert given['file_7'] != old
+    for zone, case in [('480', c) for c in CASES] + ZONED:
+        names = case.split()
+        assert len(names) == 3
+        args += [zone, *names]
+        expected += b'# %s %s\n' % (zone.encode(), case.encode()) + printed(zone, *(given[n] for n in names))
+    assert set(args) - {zone for zone, _ in [('480', ''), *ZONED]} == set(given), set(given) - set(args)
     write_run(small, args, expected)
 
 
@@ -304,6 +307,13 @@ CASES = [
     'file layout input', 'file r13_one_word input', 'file empty input', 'file input layout', 'file input r13_one_word', 'file input empty',
     'damaged input input', 'shorter input input', 'longer input input', 'empty input input', 'too_long input input', 'other_file input input', 'file entry input',
     'damaged input r1', 'file r1 r1', 'file r4_0 r9', 'file r10 r3_1',
+]
+
+# by other zones: the file of UTC+7 is what its input gives there, that of UTC+8 is not; 15 before 13 of an input and of the old file
+ZONED = [
+    ('420', 'file_7 input input'), ('420', 'file_7 input entry'), ('420', 'file_7 input bump'), ('420', 'file_7 input r10'), ('420', 'file input input'),
+    ('480', 'file_7 input input'), ('841', 'file input input'), ('-721', 'damaged input input'), ('841', 'file layout input'), ('841', 'file input layout'),
+    ('841', 'file input r1'), ('8h', 'file input input'),
 ]
 
 

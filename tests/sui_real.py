@@ -2,7 +2,7 @@
 """Writes what crates/sui_real reads and must print.
 
 sui_real.py          works out crates/sui_real/stdout from the inputs under data/, by document 01's sentences over whole numbers of any size: every mark of both
-                     series by bisection, days, then the months. It shares no code with the proved library.
+                     series by bisection, days in each zone, then the months. It shares no code with the proved library.
 sui_real.py DIR      first cuts those inputs from the series in DIR: sun_A.i64 and moon_A.i64 (64-bit words: segments, start, coefficients), leap_real10.i64
 
 An input is 64-bit words: six years, 28 leap entries, the Sun's start and 37 segments, the Moon's start and 292 segments.
@@ -23,6 +23,8 @@ LEAP, SUN_SEGMENTS, MOON_SEGMENTS, YEARS = 28, 37, 292, 6
 # of five years in a row the first and the last have no solstice on one side; and a year out of range
 CASES = (('1984', datetime.date(1984, 11, 15), (1699, 1984, 1985, 1986, 1987, 1988)), ('2032', datetime.date(2032, 11, 15), (2032, 2033, 2034, 2035, 2036, 2501)))
 DAY_ZERO = datetime.date(2000, 1, 1)
+# UTC+8, UTC+7, and one minute beyond the last zone
+ZONES = (480, 420, 841)
 WITHOUT = []
 
 
@@ -49,20 +51,27 @@ def write_cuts(folder):
             f.write(struct.pack('<%dq' % len(words), *words))
 
 
-def day_of(entries, second):
+def judge_zone(zone):
+    if not -720 <= zone <= 840:
+        raise reference.Refused(15)
+
+
+def day_of(entries, second, zone=480):
+    """The zone's day; an inserted second belongs to the day that it ends."""
     tai = 1000 * second - 32184
     offset = [o for d, o in entries if 1000 * (86400 * d + o) <= tai][-1]
-    return (tai - 1000 * offset + 28800000) // 86400000
+    extra = any(1000 * (86400 * d + o - 1) <= tai < 1000 * (86400 * d + o) for d, o in entries[1:])
+    return (tai - 1000 * offset + 60000 * zone - 1000 * extra) // 86400000
 
 
 def date_of(day):
     return DAY_ZERO + datetime.timedelta(days=day)
 
 
-def days_of(entries, series, body):
-    """The listed marks, index and day."""
+def seconds_of(series, body):
+    """The listed marks, index and second."""
     segments = reference.judge(series, body[1], body[3])
-    return [(j, day_of(entries, s)) for j, s in reference.marks(series[0], segments, body[1], body[2])]
+    return list(reference.marks(series[0], segments, body[1], body[2]))
 
 
 def the_one(marks):
@@ -114,15 +123,25 @@ def lines(words):
     moon = (words[at], words[at + 1:])
     assert len(moon[1]) == 14 * MOON_SEGMENTS
     entries = reference.judge_leap(leap)
-    sun, moon = days_of(entries, sun, SUN), days_of(entries, moon, MOON)
-    for year in words[:YEARS]:
-        try:
-            for number, mark, first, length, has_zhongqi in months(year, sun, moon):
-                if not has_zhongqi:
-                    WITHOUT.append((year, str(date_of(first))))
-                yield '%d %d %d %d %s %d\n' % (year, number, mark, 32 * year + 2 * number + mark, date_of(first), length)
-        except reference.Refused as r:
-            yield '%d R %d\n' % (year, *r.args)
+    seconds = seconds_of(sun, SUN), seconds_of(moon, MOON)
+    for zone in ZONES:
+        yield 'zone %d\n' % zone
+        days = [[(j, day_of(entries, s, zone)) for j, s in marks] for marks in seconds]
+        for year in words[:YEARS]:
+            try:
+                judge_zone(zone)
+                for number, mark, first, length, has_zhongqi in months(year, *days):
+                    if not has_zhongqi:
+                        WITHOUT.append((zone, year, str(date_of(first))))
+                    yield '%d %d %d %d %s %d\n' % (year, number, mark, 32 * year + 2 * number + mark, date_of(first), length)
+            except reference.Refused as r:
+                yield '%d R %d\n' % (year, *r.args)
+
+
+def sui_in(text, zone, year):
+    """The months of a year in a zone, by what is printed."""
+    printed = [part.split('\n', 1) for part in text.split('zone ')[1:]]
+    return [t.split() for z, part in printed if int(z) == zone for t in part.split('\n') if t.startswith('%d ' % year) and ' R ' not in t]
 
 
 def main():
@@ -133,9 +152,12 @@ def main():
         text += '# %s\n' % name + ''.join(lines(read(os.path.join(crate, 'data', name))))
     # known beforehand: sui 2033 has twelve months and no leap one, though its month from 2033-08-25 has no zhongqi; sui 2034 has thirteen, and leap 11 begins on
     # 2033-12-22, though the month from 2034-02-19 has no zhongqi either
-    of = {year: [t.split() for t in text.split('\n') if t.startswith('%d ' % year)] for year in (2033, 2034)}
-    assert len(of[2033]) == 12 and all(t[2] == '0' for t in of[2033]) and (2033, '2033-08-25') in WITHOUT
-    assert len(of[2034]) == 13 and [t for t in of[2034] if t[2] == '1'] == [['2034', '11', '1', '65111', '2033-12-22', '29']] and (2034, '2034-02-19') in WITHOUT
+    of = {year: sui_in(text, 480, year) for year in (2033, 2034)}
+    assert len(of[2033]) == 12 and all(t[2] == '0' for t in of[2033]) and (480, 2033, '2033-08-25') in WITHOUT
+    assert len(of[2034]) == 13 and [t for t in of[2034] if t[2] == '1'] == [['2034', '11', '1', '65111', '2033-12-22', '29']] and (480, 2034, '2034-02-19') in WITHOUT
+    # the new year of 1985 was kept on 1985-02-20 in China, by UTC+8, and on 1985-01-21 in Vietnam, by UTC+7
+    new_year = {zone: [t[4] for t in sui_in(text, zone, 1985) if t[1:3] == ['1', '0']] for zone in (480, 420)}
+    assert new_year == {480: ['1985-02-20'], 420: ['1985-01-21']}, new_year
     with open(os.path.join(crate, 'args'), 'w') as f:
         f.write(''.join(name + '\n' for name, _, _ in CASES))
     with open(os.path.join(crate, 'stdout'), 'w') as f:

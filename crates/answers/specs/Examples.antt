@@ -67,7 +67,7 @@ examples =
     ∷ sameWords (recordOf slow countNumbers) (zero9 (pos 4) (pos 15999) (pos 0))
     ∷ same (numberOf slow) (pos 4)
     ∷ sameWords (recordOf (refused 6 0) shownNumbers) (zero9 (pos 6) (pos 0) (pos 0))
-    -- the numbers of the table: 1 to 13, but for 11
+    -- the numbers of the table: 1 to 15, but for 11 and 14
     ∷ not (inTable 0)
     ∷ inTable 1
     ∷ inTable 10
@@ -75,6 +75,8 @@ examples =
     ∷ inTable 12
     ∷ inTable 13
     ∷ not (inTable 14)
+    ∷ inTable 15
+    ∷ not (inTable 16)
     -- 12 months take 36 words, 13 take 39
     ∷ isAccepted (suiInto (answered (suiOf 12)) 36)
     ∷ isRefused (suiInto (answered (suiOf 12)) 35) 12

@@ -1,4 +1,4 @@
--- The numbers that an answer and a refusal carry fit a signed word, and a refusal's number is one of the rules' table, 1 to 10, 12 or 13: what the functions that
+-- The numbers that an answer and a refusal carry fit a signed word, and a refusal's number is one of the rules' table, 1 to 10, 12, 13 or 15: what the functions that
 -- make a record ask, and how it is shown of a chain of refusals. (`theory` shows it of each entry point.) Assumes nothing but what a statement says itself.
 use mathlib.Core.Path.{_≡_, refl}
 use mathlib.Core.Bool.{Bool, true, false, not, _&&_}
@@ -15,9 +15,9 @@ abbrev pub Small : {A : Type 0} → (A → ℕ) → Verdict A → Type 0
 Small size (answered a) = size a < 2 ^ 63
 Small size (refused number segment) = segment < 2 ^ 63
 
--- 1 to 13, but for 11, which is withdrawn
+-- 1 to 15, but for 11, which is withdrawn, and 14, which nothing here is refused by
 abbrev pub inTable : ℕ → Bool
-inTable number = (ltb 0 number && leb number 13) && not (eqb number 11)
+inTable number = (ltb 0 number && leb number 15) && (not (eqb number 11) && not (eqb number 14))
 
 abbrev pub Numbered : {A : Type 0} → Verdict A → Type 0
 Numbered (answered a) = Unit {0}

@@ -6,7 +6,6 @@ use whole::inner::in_range;
 ghost use mathlib.Core.Path.{_≡_};
 ghost use lib.ListN.{length};
 ghost use Rattle.refusals.specs.Lent.{writtenInto};
-ghost use Rattle.clock.specs.Clock.{utc8};
 ghost use Rattle.inputs.specs.Inputs.{inputs};
 ghost use Rattle.almanac.specs.Answers.{paperWritten, all-bytes};
 ghost use Rattle.built.specs.Build.{bytesBuilt, fileBuilt};
@@ -14,21 +13,22 @@ ghost use Rattle.built.specs.Build.{bytesBuilt, fileBuilt};
 pub mod inner;
 mod years;
 
-// Builds the file of `count` suis from year `first` on, by UTC+8 days, and says how many bytes it took. Everything is judged before the first byte is written.
+// Builds the file of `count` suis from year `first` on, by the days of a zone, and says how many bytes it took. Everything is judged before the first byte is written.
 pub fn build(
     leap: &[i64],
     sunstart: Second,
     sun: &[i64],
     moonstart: Second,
     moon: &[i64],
+    zone: i64,
     first: i64,
     count: i64,
     file: &mut [u8],
 ) -> WriteAnswer
-    ensures { λ r. ⌜ paperWritten r ≡ fileBuilt (inputs (now (leap .entry)) (sunstart .0) (now (sun .entry)) (moonstart .0) (now (moon .entry))) utc8 first count (length (now (file .entry))) ⌝ }
-    ensures { λ r. ⌜ now (file .exit) ≡ writtenInto (bytesBuilt (inputs (now (leap .entry)) (sunstart .0) (now (sun .entry)) (moonstart .0) (now (moon .entry))) utc8 first count (length (now (file .entry)))) all-bytes (now (file .entry)) ⌝ }
+    ensures { λ r. ⌜ paperWritten r ≡ fileBuilt (inputs (now (leap .entry)) (sunstart .0) (now (sun .entry)) (moonstart .0) (now (moon .entry))) zone first count (length (now (file .entry))) ⌝ }
+    ensures { λ r. ⌜ now (file .exit) ≡ writtenInto (bytesBuilt (inputs (now (leap .entry)) (sunstart .0) (now (sun .entry)) (moonstart .0) (now (moon .entry))) zone first count (length (now (file .entry)))) all-bytes (now (file .entry)) ⌝ }
 {
-    let check = inputs::judge(leap, sunstart, sun, moonstart, moon);
+    let check = inputs::judge_in(leap, sunstart, sun, moonstart, moon, zone);
     if let Check::Refused(r) = check {
         return WriteAnswer::Refused(r);
     }
@@ -36,5 +36,5 @@ pub fn build(
         return WriteAnswer::Refused(refusals::NO_SUI);
     }
     let n = whole::inner::count(count);
-    inner::build_in(leap, sunstart, sun, moonstart, moon, 480, first, n, file)
+    inner::build_in(leap, sunstart, sun, moonstart, moon, zone, first, n, file)
 }

@@ -1,5 +1,6 @@
-// What the programs that build have in common: rooms for an input and a file, an input taken piece by piece, and how a refusal is printed.
+// What the programs that build have in common: rooms for an input and a file, arguments, an input taken piece by piece, and how a refusal is printed.
 use building::SeriesAnswer;
+use packing::PackAnswer;
 use refusals::Refusal;
 ghost use mathlib.Core.Path.{_≡_};
 ghost use Prim.Native.Nat.{_≤_};
@@ -38,9 +39,55 @@ pub fn print_refusal(r: Refusal) {
     io::write_all(libc::STDOUT_FILENO, b"\n");
 }
 
+// Opens the file that an argument names, and answers a descriptor, or -1.
+pub fn open_argument(i: usize) -> i32 {
+    let mut name = io::buffer();
+    let n = os::arg(i, &mut name);
+    os::open_read(&name[..n])
+}
+
+// Prints an argument.
+pub fn print_argument(i: usize) {
+    let mut text = io::buffer();
+    let n = os::arg(i, &mut text);
+    io::write_all(libc::STDOUT_FILENO, &text[..n]);
+}
+
+fn zone_room() -> [u8; 8]
+    ensures { λ r. ⌜ 8 ≡ length r ⌝ }
+{
+    [0; 8]
+}
+
+// The zone that a text says: one decimal word, the minutes. A text that says no word, or more than one, gets a number that is no zone: it is refused by 15.
+fn zone_in(text: &[u8]) -> i64 {
+    let mut word = zone_room();
+    let answer = packing::pack(text, &mut word);
+    match answer {
+        PackAnswer::Bad(_, _) => -10000,
+        PackAnswer::Room => -10000,
+        PackAnswer::Packed(bytes) => {
+            if bytes != 8 {
+                return -10000;
+            }
+            words::inner::word_at(&word, 0)
+        }
+    }
+}
+
+// The zone that an argument says; without such an argument it is UTC+8.
+pub fn zone_argument(i: usize) -> i64 {
+    if os::arg_count() <= i {
+        return 480;
+    }
+    let mut text = io::buffer();
+    let n = os::arg(i, &mut text);
+    zone_in(&text[..n])
+}
+
 // Says on standard error whose series is refused; for other refusals nothing.
-pub fn print_series(words: &[i64], bytes: usize) {
-    match building::refused_series(words, bytes) {
+pub fn print_series(words: &[i64], bytes: usize, zone: i64) {
+    match building::refused_series(words, bytes, zone) {
         SeriesAnswer::Sun => {
             io::write_all(libc::STDERR_FILENO, b"the Sun's series\n");
         }

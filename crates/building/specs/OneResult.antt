@@ -13,12 +13,12 @@ use Rattle.building.specs.declared.SeriesAnswer.{SeriesAnswer}
 use Rattle.building.specs.Building.{builtFromTaken}
 use Rattle.building.specs.Refused.{refusedInTaken}
 
-module _ (ws : List ℤ) (bytes : ℕ) (file : List ℕ) where
-  pub build-taken-one-result : (a b : WriteAnswer) → paperWritten a ≡ bytesCounted (builtFromTaken ws bytes (length file)) → paperWritten b ≡ bytesCounted (builtFromTaken ws bytes (length file)) → a ≡ b
+module _ (ws : List ℤ) (bytes : ℕ) (zone : ℤ) (file : List ℕ) where
+  pub build-taken-one-result : (a b : WriteAnswer) → paperWritten a ≡ bytesCounted (builtFromTaken ws bytes zone (length file)) → paperWritten b ≡ bytesCounted (builtFromTaken ws bytes zone (length file)) → a ≡ b
   build-taken-one-result a b p q = one-result paperWritten written-apart a b p q
 
-  pub build-taken-one-content : (a b : List ℕ) → a ≡ writtenInto (builtFromTaken ws bytes (length file)) all-bytes file → b ≡ writtenInto (builtFromTaken ws bytes (length file)) all-bytes file → a ≡ b
+  pub build-taken-one-content : (a b : List ℕ) → a ≡ writtenInto (builtFromTaken ws bytes zone (length file)) all-bytes file → b ≡ writtenInto (builtFromTaken ws bytes zone (length file)) all-bytes file → a ≡ b
   build-taken-one-content a b p q = one-content a b p q
 
-pub refused-series-one-result : (ws : List ℤ) (bytes : ℕ) (a b : SeriesAnswer) → a ≡ refusedInTaken ws bytes → b ≡ refusedInTaken ws bytes → a ≡ b
-refused-series-one-result ws bytes a b p q = one-content a b p q
+pub refused-series-one-result : (ws : List ℤ) (bytes : ℕ) (zone : ℤ) (a b : SeriesAnswer) → a ≡ refusedInTaken ws bytes zone → b ≡ refusedInTaken ws bytes zone → a ≡ b
+refused-series-one-result ws bytes zone a b p q = one-content a b p q

@@ -24,26 +24,26 @@ module _ (input : List ℕ) (ws : List ℤ) (size : length ws ≡ 252135) (held 
       let short = not-too-long (length input) e in
       (le-leb (length input / 8) (length ws) (omega (arith, size, short)), held (omega (arith, size, short)))
 
-  held-is-built : (room : ℕ) → builtFromTaken ws (length input) room ≡ builtFrom input room
+  held-is-built : (zone : ℤ) (room : ℕ) → builtFromTaken ws (length input) zone room ≡ builtFrom input zone room
   unfolding builtFromTaken allTaken builtFrom
-  held-is-built room = go (lengthKept (length input)) refl
+  held-is-built zone room = go (lengthKept (length input)) refl
     where
-      go : (kept : Bool) → lengthKept (length input) ≡ kept → builtFromTaken ws (length input) room ≡ builtFrom input room
+      go : (kept : Bool) → lengthKept (length input) ≡ kept → builtFromTaken ws (length input) zone room ≡ builtFrom input zone room
       go true e = let there = all-there e in rw (e, there .0, there .1)
       go false e = rw e
 
-  held-is-blamed : refusedInTaken ws (length input) ≡ refusedSeries input
+  held-is-blamed : (zone : ℤ) → refusedInTaken ws (length input) zone ≡ refusedSeries input zone
   unfolding refusedInTaken allTaken refusedSeries
-  held-is-blamed = go (lengthKept (length input)) refl
+  held-is-blamed zone = go (lengthKept (length input)) refl
     where
-      go : (kept : Bool) → lengthKept (length input) ≡ kept → refusedInTaken ws (length input) ≡ refusedSeries input
+      go : (kept : Bool) → lengthKept (length input) ≡ kept → refusedInTaken ws (length input) zone ≡ refusedSeries input zone
       go true e = let there = all-there e in rw (e, there .0, there .1)
       go false e = rw e
 
 -- ---- of an input that was taken in pieces
 module _ (pieces : List (List ℕ)) (cut : CutAtWords pieces) (ws : List ℤ) (size : length ws ≡ 252135) where
-  pub pieces-build : (room : ℕ) → builtFromTaken (allPieces 0 pieces ws) (length (joined pieces)) room ≡ builtFrom (joined pieces) room
-  pieces-build room = held-is-built (joined pieces) (allPieces 0 pieces ws) (pieces-keep-length 0 pieces ws ∙ size) (pieces-are-held pieces ws cut) room
+  pub pieces-build : (zone : ℤ) (room : ℕ) → builtFromTaken (allPieces 0 pieces ws) (length (joined pieces)) zone room ≡ builtFrom (joined pieces) zone room
+  pieces-build zone room = held-is-built (joined pieces) (allPieces 0 pieces ws) (pieces-keep-length 0 pieces ws ∙ size) (pieces-are-held pieces ws cut) zone room
 
-  pub pieces-blame : refusedInTaken (allPieces 0 pieces ws) (length (joined pieces)) ≡ refusedSeries (joined pieces)
-  pieces-blame = held-is-blamed (joined pieces) (allPieces 0 pieces ws) (pieces-keep-length 0 pieces ws ∙ size) (pieces-are-held pieces ws cut)
+  pub pieces-blame : (zone : ℤ) → refusedInTaken (allPieces 0 pieces ws) (length (joined pieces)) zone ≡ refusedSeries (joined pieces) zone
+  pieces-blame zone = held-is-blamed (joined pieces) (allPieces 0 pieces ws) (pieces-keep-length 0 pieces ws ∙ size) (pieces-are-held pieces ws cut) zone

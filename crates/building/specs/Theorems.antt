@@ -10,11 +10,11 @@ use lib.IntN.{ℤ}
 use lib.ListN.{length, drop}
 use Rattle.refusals.specs.Verdict.{Verdict, answered, refused, accepted, refuseWhen, _before_}
 use Rattle.words.specs.Words.{words}
-use Rattle.clock.specs.Answers.{leapJudged}
+use Rattle.clock.specs.Answers.{zoneJudged, leapJudged}
 use Rattle.series.specs.Series.{Series}
 use Rattle.series.specs.Acceptance.{Accepted, seriesJudged}
 use Rattle.marks.specs.Listed.{listedMarks}
-use Rattle.inputs.specs.Inputs.{Inputs, sun, moon, anyEarly, inputsJudged}
+use Rattle.inputs.specs.Inputs.{Inputs, sun, moon, anyEarly, inputsJudged, judgedIn}
 use Rattle.layout.specs.declared.inner.Places.{Places}
 use Rattle.layout.specs.Layout.{places, inputsAt}
 use Rattle.built.specs.Build.{builtBy}
@@ -77,31 +77,32 @@ abbrev pub restOf : List ℕ → List ℤ
 restOf bytes = drop 2 (words bytes (length bytes / 8))
 
 -- The input keeps its layout, one of its series is refused, and that is the build's refusal, whatever the room.
-pub record RefusedBy (body : Inputs → Series) (bytes : List ℕ) (room : ℕ) : Type 0 where
+pub record RefusedBy (body : Inputs → Series) (bytes : List ℕ) (zone : ℤ) (room : ℕ) : Type 0 where
   pub place : Places
   pub is-place : places (restOf bytes) ≡ answered place
   pub number : ℕ
   pub segment : ℕ
   pub series-refused : seriesJudged (body (inputsAt (restOf bytes) place)) ≡ refused number segment
-  pub build-refused : builtFrom bytes room ≡ refused number segment
+  pub build-refused : builtFrom bytes zone room ≡ refused number segment
 
-module _ (bytes : List ℕ) (room : ℕ) where
+module _ (bytes : List ℕ) (zone : ℤ) (room : ℕ) where
   -- what is named of an input is named of its inputs, and a refusal of these is the build's
-  named : (x : SeriesAnswer) → (Neither ≡ x → ⊥) → refusedSeries bytes ≡ x → (p : Places) × (places (restOf bytes) ≡ answered p) × (refusedOf (inputsAt (restOf bytes) p) ≡ x) × ((number segment : ℕ) → inputsJudged (inputsAt (restOf bytes) p) ≡ refused number segment → builtFrom bytes room ≡ refused number segment)
-  unfolding refusedSeries refusedInWords refusedInRest builtFrom builtFromWords builtFromRest builtBy
+  named : (x : SeriesAnswer) → (Neither ≡ x → ⊥) → refusedSeries bytes zone ≡ x → (p : Places) × (places (restOf bytes) ≡ answered p) × (refusedOf (inputsAt (restOf bytes) p) ≡ x) × ((number segment : ℕ) → inputsJudged (inputsAt (restOf bytes) p) ≡ refused number segment → builtFrom bytes zone room ≡ refused number segment)
+  unfolding refusedSeries refusedInWords refusedInRest builtFrom builtFromWords builtFromRest builtBy judgedIn
   named x some e =
-      let kept = leads-from (refuseWhen (not (lengthKept (length bytes))) 13) _ x some e in
+      let in-zone = leads-from (zoneJudged zone) _ x some e in
+      let kept = leads-from (refuseWhen (not (lengthKept (length bytes))) 13) _ x some (in-zone .2) in
       let enough = leads-from (refuseWhen (ltb (length (words bytes (length bytes / 8))) 2) 13) _ x some (kept .2) in
       let found = leads-from (places (restOf bytes)) _ x some (enough .2) in
-      (found .0, found .1, found .2, λ number segment h. rw (kept .1, enough .1, found .1, h))
+      (found .0, found .1, found .2, λ number segment h. rw (in-zone .1, kept .1, enough .1, found .1, h))
 
-  pub sun-is-refused : refusedSeries bytes ≡ Sun → RefusedBy sun bytes room
+  pub sun-is-refused : refusedSeries bytes zone ≡ Sun → RefusedBy sun bytes zone room
   sun-is-refused e =
       let n = named Sun not-sun e in
       let r = sun-judged (inputsAt (restOf bytes) (n .0)) (n .2) in
       record { place = n .0; is-place = n .1; number = r .0; segment = r .1; series-refused = r .2; build-refused = n .3 (r .0) (r .1) (r .3) }
 
-  pub moon-is-refused : refusedSeries bytes ≡ Moon → RefusedBy moon bytes room
+  pub moon-is-refused : refusedSeries bytes zone ≡ Moon → RefusedBy moon bytes zone room
   moon-is-refused e =
       let n = named Moon not-moon e in
       let r = moon-judged (inputsAt (restOf bytes) (n .0)) (n .2) in

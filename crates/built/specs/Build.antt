@@ -7,7 +7,7 @@ use lib.IntN.{ℤ, pos, natAbs, _+ℤ_}
 use lib.ListN.{take}
 use Rattle.whole.specs.Tests.{inRange}
 use Rattle.refusals.specs.Verdict.{Verdict, answered, refuseWhen, _before_, _then_}
-use Rattle.inputs.specs.Inputs.{Inputs, inputsJudged}
+use Rattle.inputs.specs.Inputs.{Inputs, judgedIn}
 use Rattle.months.specs.declared.Month.{Month}
 use Rattle.months.specs.declared.Sui.{Sui}
 use Rattle.sui.specs.Sui.{suiOfYear}
@@ -49,7 +49,7 @@ contentBy leap suiOf first n = suisBy suiOf first n then λ suis. answered (cont
 unfoldable pub bytesBy : List ℤ → (ℤ → Verdict Sui) → ℤ → ℕ → ℕ → Verdict (List ℕ)
 bytesBy leap suiOf first n room = contentBy leap suiOf first n then λ c. bytesInto c room
 
--- behind the judgement of the inputs: after 7 the count is judged, then each sui in year order by 8 to 10, then 12
+-- behind the judgement of zone and inputs: after 7 the count is judged, then each sui in year order by 8 to 10, then 12
 unfoldable pub builtBy : Verdict (Unit {0}) → List ℤ → (ℤ → Verdict Sui) → ℤ → ℤ → ℕ → Verdict (List ℕ)
 builtBy judged leap suiOf first count room =
     judged
@@ -67,9 +67,9 @@ module _ (i : Inputs) (zone : ℤ) where
   abbrev pub bytesOfYears : ℤ → ℕ → ℕ → Verdict (List ℕ)
   bytesOfYears = bytesBy (i .leap) (suiOfYear i zone)
 
-  -- the whole: 1; Sun 2 to 5; Moon 2 to 5; 7; 8; each sui; 12
+  -- the whole: 15; 1; Sun 2 to 5; Moon 2 to 5; 7; 8; each sui; 12
   abbrev pub bytesBuilt : ℤ → ℤ → ℕ → Verdict (List ℕ)
-  bytesBuilt = builtBy (inputsJudged i) (i .leap) (suiOfYear i zone)
+  bytesBuilt = builtBy (judgedIn i zone) (i .leap) (suiOfYear i zone)
 
   -- how many bytes it has
   unfoldable pub fileBuilt : ℤ → ℤ → ℕ → Verdict ℕ

@@ -11,9 +11,9 @@ use lib.IntN.{ℤ, pos, natAbs, _+ℤ_}
 use lib.ListN.{length}
 use Rattle.whole.specs.Ranges.{Within}
 use Rattle.whole.specs.Tests.{inRange}
-use Rattle.refusals.specs.Verdict.{Verdict, answered, refuseWhen, _before_, _then_, then-answered, test-answered, answers-apart, one-result, one-content}
+use Rattle.refusals.specs.Verdict.{Verdict, answered, accepted, refuseWhen, _before_, _then_, then-answered, test-answered, answers-apart, one-result, one-content}
 use Rattle.refusals.specs.Lent.{writtenInto}
-use Rattle.inputs.specs.Inputs.{Inputs, InputsAccepted}
+use Rattle.inputs.specs.Inputs.{Inputs, judgedIn}
 use Rattle.inputs.specs.Known.{Known}
 use Rattle.inputs.specs.Theorems.{known}
 use Rattle.months.specs.declared.Sui.{Sui}
@@ -81,13 +81,13 @@ sui-of-each-year i zone first n e j h =
       months-are = month-at first suis (suis-whole i zone first n suis s) j inside;
     })
 
--- for accepted inputs that is what `sui` answers for the year
-pub sui-of-accepted : (i : Inputs) → InputsAccepted i → (zone year : ℤ) → suiFor i zone year ≡ suiOfYear i zone year
+-- for accepted inputs and zone that is what `sui` answers for the year
+pub sui-of-accepted : (i : Inputs) (zone : ℤ) → judgedIn i zone ≡ accepted → (year : ℤ) → suiFor i zone year ≡ suiOfYear i zone year
 unfolding suiFor
-sui-of-accepted i judged zone year = rw judged
+sui-of-accepted i zone judged year = rw judged
 
-pub sui-for-each-year : (i : Inputs) → InputsAccepted i → (zone first : ℤ) (n : ℕ) {c : Content} → contentBuilt i zone first n ≡ answered c → (j : ℕ) → j < n → InFile (suiFor i zone (first +ℤ pos j)) (first +ℤ pos j) c j
-sui-for-each-year i judged zone first n e j h = rw (sui-of-accepted i judged zone (first +ℤ pos j)) (sui-of-each-year i zone first n e j h)
+pub sui-for-each-year : (i : Inputs) (zone : ℤ) → judgedIn i zone ≡ accepted → (first : ℤ) (n : ℕ) {c : Content} → contentBuilt i zone first n ≡ answered c → (j : ℕ) → j < n → InFile (suiFor i zone (first +ℤ pos j)) (first +ℤ pos j) c j
+sui-for-each-year i zone judged first n e j h = rw (sui-of-accepted i zone judged (first +ℤ pos j)) (sui-of-each-year i zone first n e j h)
 
 -- ---- the reader accepts what is built, and reads that content
 pub record BuiltFile (i : Inputs) (zone first count : ℤ) (bytes : List ℕ) : Type 0 where
@@ -96,18 +96,18 @@ pub record BuiltFile (i : Inputs) (zone first count : ℤ) (bytes : List ℕ) : 
   pub is-written : bytes ≡ bytesOf content
   pub is-read : fileOf bytes ≡ answered content
 
-pub built-is-read : (i : Inputs) (zone first count : ℤ) (room : ℕ) {bytes : List ℕ} → bytesBuilt i zone first count room ≡ answered bytes → Within 1000 zone → BuiltFile i zone first count bytes
+pub built-is-read : (i : Inputs) (zone first count : ℤ) (room : ℕ) {bytes : List ℕ} → bytesBuilt i zone first count room ≡ answered bytes → BuiltFile i zone first count bytes
 unfolding builtBy bytesBy
-built-is-read i zone first count room {bytes} e small =
+built-is-read i zone first count room {bytes} e =
     let n = natAbs count in
     let rest = contentBuilt i zone first n then λ c. bytesInto c room in
-    let judged = inputs-answered i (refuseWhen (not (inRange (pos 1) (pos 128) count)) 8 before rest) e in
+    let judged = inputs-answered i zone (refuseWhen (not (inRange (pos 1) (pos 128) count)) 8 before rest) e in
     let counted = test-answered (not (inRange (pos 1) (pos 128) count)) 8 rest bytes (judged .1) in
     let few = count-small count (not-false (inRange (pos 1) (pos 128) count) (counted .0)) in
     let made = then-answered (contentBuilt i zone first n) (λ c. bytesInto c room) bytes (counted .1) in
     let c = made .0 in
     let written : bytesOf c ≡ bytes = answers-apart (test-answered (ltb room (length (bytesOf c))) 12 (answered (bytesOf c)) bytes (made .2) .1) in
-    let keeps = built-is-lawful i zone (known i (judged .0)) small first n (few .0) (few .1) (made .1) in
+    let keeps = built-is-lawful i zone (known i (judged .0)) (judged .2) first n (few .0) (few .1) (made .1) in
     record { content = c; is-content = made .1; is-written = sym written; is-read = ap fileOf (sym written) ∙ written-is-read c keeps }
 
 -- ---- one result: any two answers that the build may give are the same, and so is what the lent file holds

@@ -1,5 +1,5 @@
--- From a TDB second to local milliseconds, days and shown times (document 01, "Three counts of time", as order 2 amends it), for any table, second and zone: what is
--- refused is judged before (`Answers`). The zone is in minutes; UTC+8 is 480. Assumes nothing: these are definitions.
+-- From a TDB second to local milliseconds, days and shown times (document 01, "Three counts of time", as orders 2 and 5 amend it), for any table, second and zone: what
+-- is refused is judged before (`Answers`). The zone is in minutes east of UTC; UTC+8 is 480. Assumes nothing: these are definitions.
 use Prim.Native.Nat.{ℕ, _/_, _%_}
 use mathlib.Core.Path.{_≡_}
 use mathlib.Core.Bool.{Bool, true, false, not, cond}
@@ -16,7 +16,11 @@ use Rattle.clock.specs.declared.Reading.{Reading}
 use Rattle.clock.specs.declared.ShownTime.{ShownTime}
 use Rattle.clock.specs.Leap.{leapLawful, offset, holds, entryUsed, inserted}
 
--- the zone of UTC+8, in minutes
+-- zones are -720 to 840 minutes
+unfoldable pub isZone : ℤ → Bool
+isZone zone = inRange (negsuc 719) (pos 840) zone
+
+-- the zone of UTC+8
 abbrev pub utc8 : ℤ
 utc8 = pos 480
 
@@ -33,7 +37,7 @@ unfoldable pub early : List ℤ → Second → Bool
 early leap s = not (holds leap (tai s) 0)
 
 -- ---- one reading of the clock: the count in the zone, and whether the second is an inserted one. The count cannot say an inserted second: it says the one after it
--- the local millisecond of a TAI millisecond under an offset
+-- the local millisecond of a TAI millisecond under an offset: "28,800,000 becomes 60,000 times the zone"
 unfoldable pub localMilli : ℤ → ℤ → ℤ → Milli
 localMilli t o zone = record { 0 = t -ℤ pos 1000 *ℤ o +ℤ pos 60000 *ℤ zone }
 
@@ -78,7 +82,7 @@ shownBy r =
 unfoldable pub shownIn : List ℤ → Second → ℤ → ShownTime
 shownIn leap s zone = shownBy (reading leap s zone)
 
--- ---- what is known once table and second are judged: what the inner functions ask. The zones -720 to 840 are within 1,000 minutes
+-- ---- what is known once zone, table and second are judged: what the inner functions ask. The zones -720 to 840 are within 1,000 minutes
 pub record Readable (leap : List ℤ) (s : Second) (zone : ℤ) : Type 0 where
   pub lawful-table : leapLawful leap ≡ true
   pub in-range : convertible s ≡ true

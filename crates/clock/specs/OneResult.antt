@@ -34,14 +34,14 @@ shown-apart (shown.Refused r) (shown.Refused s) e = ap shown.Refused (refusals-a
 pub judge-leap-table-one-result : (leap : List ℤ) (a b : Check) → paperCheck a ≡ leapJudged leap → paperCheck b ≡ leapJudged leap → a ≡ b
 judge-leap-table-one-result leap a b p q = one-result paperCheck checks-apart a b p q
 
-pub milli-of-one-result : (leap : List ℤ) (s : Second) (a b : MilliAnswer) → paperMilli a ≡ milliOf leap s → paperMilli b ≡ milliOf leap s → a ≡ b
-milli-of-one-result leap s a b p q = one-result paperMilli millis-apart a b p q
+pub milli-of-one-result : (leap : List ℤ) (s : Second) (zone : ℤ) (a b : MilliAnswer) → paperMilli a ≡ milliOf leap s zone → paperMilli b ≡ milliOf leap s zone → a ≡ b
+milli-of-one-result leap s zone a b p q = one-result paperMilli millis-apart a b p q
 
-pub day-of-second-one-result : (leap : List ℤ) (s : Second) (a b : DayAnswer) → paperDay a ≡ dayOfSecond leap s → paperDay b ≡ dayOfSecond leap s → a ≡ b
-day-of-second-one-result leap s a b p q = one-result paperDay days-apart a b p q
+pub day-of-second-one-result : (leap : List ℤ) (s : Second) (zone : ℤ) (a b : DayAnswer) → paperDay a ≡ dayOfSecond leap s zone → paperDay b ≡ dayOfSecond leap s zone → a ≡ b
+day-of-second-one-result leap s zone a b p q = one-result paperDay days-apart a b p q
 
-pub shown-one-result : (leap : List ℤ) (s : Second) (a b : ShownAnswer) → paperShown a ≡ shownOf leap s → paperShown b ≡ shownOf leap s → a ≡ b
-shown-one-result leap s a b p q = one-result paperShown shown-apart a b p q
+pub shown-one-result : (leap : List ℤ) (s : Second) (zone : ℤ) (a b : ShownAnswer) → paperShown a ≡ shownOf leap s zone → paperShown b ≡ shownOf leap s zone → a ≡ b
+shown-one-result leap s zone a b p q = one-result paperShown shown-apart a b p q
 
 pub day-of-milli-one-result : (m : Milli) (a b : Day) → a ≡ dayOfMilli m → b ≡ dayOfMilli m → a ≡ b
 day-of-milli-one-result m a b p q = one-content a b p q

@@ -21,12 +21,12 @@ use Rattle.times.specs.declared.Second.{Second}
 use Rattle.dates.specs.Answers.{hasDate}
 use Rattle.clock.specs.declared.ShownTime.{ShownTime}
 use Rattle.clock.specs.Leap.{leapLawful, entries, day, holdsFrom, inserted}
-use Rattle.clock.specs.Clock.{utc8, convertible, tai, early, reading, milliIn, readOff, countIn, dayOfMilli, dayIn, shownBy, shownIn}
+use Rattle.clock.specs.Clock.{convertible, tai, early, reading, milliIn, readOff, countIn, dayOfMilli, dayIn, shownBy, shownIn}
 use Rattle.clock.specs.Order.{shownFirst}
 use Rattle.clock.specs.Answers.{clockJudged, milliOf, dayOfSecond, shownOf}
 use Rattle.clock.specs.theory.Used.{holds-on}
 use Rattle.clock.specs.theory.Sizes.{reading-has-date}
-use Rattle.clock.specs.theory.Judged.{readable-utc8, first-holds, holds-first}
+use Rattle.clock.specs.theory.Judged.{readable, first-holds, holds-first}
 use Rattle.clock.specs.theory.Counts.{tai-goes-on, count-goes-on}
 use Rattle.clock.specs.theory.Around.{Inside, inside-or-not, day-stays}
 use Rattle.clock.specs.theory.Around as around
@@ -37,13 +37,13 @@ pub days-never-go-back : (w : List ℤ) → leapLawful w ≡ true → (s s′ : 
 unfolding dayIn dayOfMilli
 days-never-go-back w l s s′ h zone = floorDiv-mono 86400000 (omega arith) (count-goes-on w l s s′ h zone)
 
-pub answered-days-never-go-back : (w : List ℤ) (s s′ : Second) → s .0 ⩽ s′ .0 → (d d′ : Day) → dayOfSecond w s ≡ answered d → dayOfSecond w s′ ≡ answered d′ → d .0 ⩽ d′ .0
+pub answered-days-never-go-back : (w : List ℤ) (s s′ : Second) → s .0 ⩽ s′ .0 → (zone : ℤ) (d d′ : Day) → dayOfSecond w s zone ≡ answered d → dayOfSecond w s′ zone ≡ answered d′ → d .0 ⩽ d′ .0
 unfolding dayOfSecond
-answered-days-never-go-back w s s′ h d d′ e e′ =
-    let a = answered-says (clockJudged w s) e in
-    let b = answered-says (clockJudged w s′) e′ in
-    let lawful = readable-utc8 w s (a .0) .lawful-table in
-    rw (a .1, b .1) at (days-never-go-back w lawful s s′ h utc8)
+answered-days-never-go-back w s s′ h zone d d′ e e′ =
+    let a = answered-says (clockJudged w s zone) e in
+    let b = answered-says (clockJudged w s′ zone) e′ in
+    let lawful = readable w s zone (a .0) .lawful-table in
+    rw (a .1, b .1) at (days-never-go-back w lawful s s′ h zone)
 
 -- ---- the time shown never goes back, and no two seconds are shown alike
 pub shown-goes-on : (w : List ℤ) → leapLawful w ≡ true → (s s′ : Second) → s .0 ≺ s′ .0 → (zone : ℤ) → shownFirst (shownIn w s zone) (shownIn w s′ zone) ≡ true
@@ -57,26 +57,26 @@ shown-never-goes-back w l s s′ h zone = ⊎-elim same (λ (k : s .0 <ℤ s′ 
         let e : s ≡ s′ = λ t. record { 0 = ≤-antisymm h k t } in
         ap (λ (x : Second). shownFirst (shownIn w s′ zone) (shownIn w x zone)) e ∙ not-before-itself (shownIn w s′ zone)
 
-pub answered-shown-never-goes-back : (w : List ℤ) (s s′ : Second) → s .0 ⩽ s′ .0 → (t t′ : ShownTime) → shownOf w s ≡ answered t → shownOf w s′ ≡ answered t′ → shownFirst t′ t ≡ false
+pub answered-shown-never-goes-back : (w : List ℤ) (s s′ : Second) → s .0 ⩽ s′ .0 → (zone : ℤ) (t t′ : ShownTime) → shownOf w s zone ≡ answered t → shownOf w s′ zone ≡ answered t′ → shownFirst t′ t ≡ false
 unfolding shownOf
-answered-shown-never-goes-back w s s′ h t t′ e e′ =
-    let a = answered-says (clockJudged w s) e in
-    let b = answered-says (clockJudged w s′) e′ in
-    let lawful = readable-utc8 w s (a .0) .lawful-table in
-    rw (a .1, b .1) at (shown-never-goes-back w lawful s s′ h utc8)
+answered-shown-never-goes-back w s s′ h zone t t′ e e′ =
+    let a = answered-says (clockJudged w s zone) e in
+    let b = answered-says (clockJudged w s′ zone) e′ in
+    let lawful = readable w s zone (a .0) .lawful-table in
+    rw (a .1, b .1) at (shown-never-goes-back w lawful s s′ h zone)
 
 -- ---- days stay as they were: in a zone whose midnight is not UTC's, the day is that of the millisecond count, whether a second is inserted or not
 pub days-stay : (w : List ℤ) → leapLawful w ≡ true → (s : Second) (zone : ℤ) → 0 < floorMod zone 1440 → dayIn w s zone ≡ dayOfMilli (milliIn w s zone)
 unfolding dayIn dayOfMilli
 days-stay w l s zone h = λ t. record { 0 = day-stays w l s zone h t }
 
-pub answered-days-stay : (w : List ℤ) (s : Second) (d : Day) (m : Milli) → dayOfSecond w s ≡ answered d → milliOf w s ≡ answered m → d ≡ dayOfMilli m
-unfolding dayOfSecond milliOf floorMod
-answered-days-stay w s d m e f =
-    let a = answered-says (clockJudged w s) e in
-    let b = answered-says (clockJudged w s) f in
-    let lawful = readable-utc8 w s (a .0) .lawful-table in
-    sym (a .1) ∙ days-stay w lawful s utc8 (omega arith) ∙ ap dayOfMilli (b .1)
+pub answered-days-stay : (w : List ℤ) (s : Second) (zone : ℤ) → 0 < floorMod zone 1440 → (d : Day) (m : Milli) → dayOfSecond w s zone ≡ answered d → milliOf w s zone ≡ answered m → d ≡ dayOfMilli m
+unfolding dayOfSecond milliOf
+answered-days-stay w s zone h d m e f =
+    let a = answered-says (clockJudged w s zone) e in
+    let b = answered-says (clockJudged w s zone) f in
+    let lawful = readable w s zone (a .0) .lawful-table in
+    sym (a .1) ∙ days-stay w lawful s zone h ∙ ap dayOfMilli (b .1)
 
 -- ---- any other second is read as document 01 says: the day of its millisecond count, and the time of it
 pub elsewhere-as-before : (w : List ℤ) (s : Second) (zone : ℤ) → inserted w (tai s) ≡ false → (dayIn w s zone ≡ dayOfMilli (milliIn w s zone)) × (shownIn w s zone ≡ shownBy (record { milli = milliIn w s zone; inserted = false }))
@@ -149,12 +149,12 @@ module _ {w : List ℤ} {i : ℕ} {before s after : Second} (here : Insertion w 
 pub converted-day-has-date : (w : List ℤ) → leapLawful w ≡ true → (s : Second) → convertible s ≡ true → (zone : ℤ) → Within 1000 zone → hasDate (dayIn w s zone .0) ≡ true
 converted-day-has-date w l s k zone z = reading-has-date w s zone l k z
 
-pub answered-day-has-date : (w : List ℤ) (s : Second) (d : Day) → dayOfSecond w s ≡ answered d → hasDate (d .0) ≡ true
+pub answered-day-has-date : (w : List ℤ) (s : Second) (zone : ℤ) (d : Day) → dayOfSecond w s zone ≡ answered d → hasDate (d .0) ≡ true
 unfolding dayOfSecond
-answered-day-has-date w s d e =
-    let a = answered-says (clockJudged w s) e in
-    let r = readable-utc8 w s (a .0) in
-    rw (a .1) at (converted-day-has-date w (r .lawful-table) s (r .in-range) utc8 (r .zone-small))
+answered-day-has-date w s zone d e =
+    let a = answered-says (clockJudged w s zone) e in
+    let r = readable w s zone (a .0) in
+    rw (a .1) at (converted-day-has-date w (r .lawful-table) s (r .in-range) zone (r .zone-small))
 
 -- ---- what is not early, is not early later
 pub goes-on-holding : (w : List ℤ) (s s′ : Second) → s .0 ⩽ s′ .0 → early w s ≡ false → early w s′ ≡ false

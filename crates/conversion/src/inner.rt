@@ -1,4 +1,4 @@
-// The parts of the entry points. Those with a `requires` are for callers that have judged the table and the second: they judge nothing again.
+// The parts of the entry points. Those with a `requires` are for callers that have judged the zone, the table and the second: they judge nothing again.
 // The zone is in minutes.
 use clock::Reading;
 use clock::ShownTime;
@@ -18,7 +18,7 @@ ghost use Rattle.whole.specs.Tests.{isExactly};
 ghost use Rattle.refusals.specs.Verdict.{paperCheck};
 ghost use Rattle.dates.specs.Answers.{hasDate};
 ghost use Rattle.clock.specs.Leap.{entries, offset, utcDay, firstEntry, nextEntry, goodEntry, wholePairs, leapLawful, holdsFrom, holds, entryUsed, inserted};
-ghost use Rattle.clock.specs.Clock.{convertible, tai, early, localMilli, reading, milliIn, readOff, countIn, dayOfMilli, dayIn, secondSaid, shownBy, shownIn, Readable};
+ghost use Rattle.clock.specs.Clock.{isZone, convertible, tai, early, localMilli, reading, milliIn, readOff, countIn, dayOfMilli, dayIn, secondSaid, shownBy, shownIn, Readable};
 ghost use Rattle.clock.specs.Answers.{clockJudged};
 
 // A TAI millisecond, counted from 2000-01-01 00:00 TAI. It does not leave this module.
@@ -199,10 +199,20 @@ pub fn early(leap: &[i64], second: Second) -> bool
     !holds(leap, tai_of(second), 0)
 }
 
-// Whether a second is converted by a table: the judge behind the conversions.
-pub fn judge(leap: &[i64], second: Second) -> Check
-    ensures { λ r. ⌜ paperCheck r ≡ clockJudged (now (leap .entry)) second ⌝ }
+// Whether so many minutes are a zone.
+pub fn is_zone(zone: i64) -> bool
+    ensures { λ r. ⌜ r ≡ isZone zone ⌝ }
 {
+    in_range(-720, 840, zone)
+}
+
+// Whether a second is converted by a table in a zone: the judge behind the conversions.
+pub fn judge(leap: &[i64], second: Second, zone: i64) -> Check
+    ensures { λ r. ⌜ paperCheck r ≡ clockJudged (now (leap .entry)) second zone ⌝ }
+{
+    if !is_zone(zone) {
+        return Check::Refused(refusals::ZONE);
+    }
     if !leap_lawful(leap) {
         return Check::Refused(refusals::LEAP_TABLE);
     }

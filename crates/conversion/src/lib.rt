@@ -1,5 +1,5 @@
-// The clock read: from TDB seconds by a leap table to UTC+8 milliseconds, days and shown times (document 01, "Three counts of time"). Definitions, examples and
-// theorems are those of `clock`.
+// The clock read: from TDB seconds by a leap table to the milliseconds, days and shown times of a zone (document 01, "Three counts of time"; document 02, orders 2
+// and 5). The zone is in minutes, -720 to 840. Definitions, examples and theorems are those of `clock`.
 use clock::MilliAnswer;
 use clock::ShownAnswer;
 use dates::DayAnswer;
@@ -33,35 +33,35 @@ pub fn day_of_milli(milli: Milli) -> Day
     Day(whole::inner::floor_div(m, 86400000))
 }
 
-// The UTC+8 millisecond of a second.
-pub fn milli_of(leap: &[i64], second: Second) -> MilliAnswer
-    ensures { λ r. ⌜ paperMilli r ≡ milliOf (now (leap .entry)) second ⌝ }
+// The zone's millisecond of a second.
+pub fn milli_of(leap: &[i64], second: Second, zone: i64) -> MilliAnswer
+    ensures { λ r. ⌜ paperMilli r ≡ milliOf (now (leap .entry)) second zone ⌝ }
 {
-    let check = inner::judge(leap, second);
+    let check = inner::judge(leap, second, zone);
     match check {
-        Check::Accepted => MilliAnswer::Found(inner::milli_in(leap, second, 480)),
+        Check::Accepted => MilliAnswer::Found(inner::milli_in(leap, second, zone)),
         Check::Refused(refusal) => MilliAnswer::Refused(refusal),
     }
 }
 
-// The UTC+8 day of a second.
-pub fn day_of_second(leap: &[i64], second: Second) -> DayAnswer
-    ensures { λ r. ⌜ paperDay r ≡ dayOfSecond (now (leap .entry)) second ⌝ }
+// The zone's day of a second.
+pub fn day_of_second(leap: &[i64], second: Second, zone: i64) -> DayAnswer
+    ensures { λ r. ⌜ paperDay r ≡ dayOfSecond (now (leap .entry)) second zone ⌝ }
 {
-    let check = inner::judge(leap, second);
+    let check = inner::judge(leap, second, zone);
     match check {
-        Check::Accepted => DayAnswer::Found(inner::day_in(leap, second, 480)),
+        Check::Accepted => DayAnswer::Found(inner::day_in(leap, second, zone)),
         Check::Refused(refusal) => DayAnswer::Refused(refusal),
     }
 }
 
-// The UTC+8 time of a second, as it is shown.
-pub fn shown(leap: &[i64], second: Second) -> ShownAnswer
-    ensures { λ r. ⌜ paperShown r ≡ shownOf (now (leap .entry)) second ⌝ }
+// The zone's time of a second, as it is shown.
+pub fn shown(leap: &[i64], second: Second, zone: i64) -> ShownAnswer
+    ensures { λ r. ⌜ paperShown r ≡ shownOf (now (leap .entry)) second zone ⌝ }
 {
-    let check = inner::judge(leap, second);
+    let check = inner::judge(leap, second, zone);
     match check {
-        Check::Accepted => ShownAnswer::Found(inner::shown_in(leap, second, 480)),
+        Check::Accepted => ShownAnswer::Found(inner::shown_in(leap, second, zone)),
         Check::Refused(refusal) => ShownAnswer::Refused(refusal),
     }
 }

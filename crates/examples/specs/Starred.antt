@@ -18,8 +18,8 @@ use Rattle.dates.specs.Calendar.{leapYear, leapYearsTo, newYear, monthLengths, 
 use Rattle.dates.specs.Answers.{hasDate, dateOf, dayOf}
 use Rattle.dates.specs.Examples as dates
 use Rattle.clock.specs.Leap.{firstEntry, nextEntry, goodEntry, wholePairs, leapLawful, holdsFrom, holds, entryUsed, insertedBy, inserted}
-use Rattle.clock.specs.Clock.{convertible, tai, early, localMilli, reading, readOff, countIn, dayOfMilli, dayIn, secondSaid, shownBy, shownIn}
-use Rattle.clock.specs.Answers.{leapJudged, clockJudged, dayOfSecond, shownOf}
+use Rattle.clock.specs.Clock.{isZone, utc8, convertible, tai, early, localMilli, reading, readOff, countIn, dayOfMilli, dayIn, secondSaid, shownBy, shownIn}
+use Rattle.clock.specs.Answers.{zoneJudged, leapJudged, clockJudged, dayOfSecond, shownOf}
 use Rattle.clock.specs.Examples as clock
 use Rattle.chebyshev.specs.Polynomials.{P}
 use Rattle.chebyshev.specs.Segment.{sum, value, slope}
@@ -49,7 +49,7 @@ unfolding
     floorDiv floorMod every any lastBelow countOf firstFrom firstBelow firstBad
     leapYear leapYearsTo newYear monthLengths monthLength daysBefore validDate numberOf yearOrNext yearOf monthsOver dateInYear dateFor hasDate dateOf dayOf
     firstEntry nextEntry goodEntry wholePairs leapLawful holdsFrom holds entryUsed insertedBy inserted
-    convertible tai early localMilli reading readOff countIn dayOfMilli dayIn secondSaid shownBy shownIn leapJudged clockJudged dayOfSecond shownOf
+    isZone convertible tai early localMilli reading readOff countIn dayOfMilli dayIn secondSaid shownBy shownIn zoneJudged leapJudged clockJudged dayOfSecond shownOf
     P sum value slope valueAt seriesJudged valueOf
     numberAt leapMark handle handleAt monthOf
     rule.notAfter rule.lastNotAfter rule.byFirst rule.bySecond rule.isMissing rule.moonMissing rule.monthCount rule.twelveOrThirteen rule.daysFound rule.daysOf
@@ -74,8 +74,8 @@ starred =
     ∷ isAccepted (seriesJudged (joined 1658879800))
     ∷ isRefusedAt (seriesJudged (joined 1658879799)) 5 1
     -- "Second -836,107 with offset 32 is day -10, 15:43:48.816 (solstice in 002, 1999-12-22)."
-    ∷ clock.isDay (dayOfSecond clock.table (clock.second (negsuc 836106))) (negsuc 9)
-    ∷ clock.isShown (shownOf clock.table (clock.second (negsuc 836106))) 1999 12 22 15 43 48 816
+    ∷ clock.isDay (dayOfSecond clock.table (clock.second (negsuc 836106)) utc8) (negsuc 9)
+    ∷ clock.isShown (shownOf clock.table (clock.second (negsuc 836106)) utc8) 1999 12 22 15 43 48 816
     -- "Day -10,227 is 1972-01-01; 59 is 2000-02-29; 8,846 is 2024-03-21. 1900-02-29 gives 6.": both ways
     ∷ dates.isDate (dateOf (dates.day (negsuc 10226))) (pos 1972) (pos 1) (pos 1)
     ∷ dates.isDay (dayOf (dates.date 1972 1 1)) (negsuc 10226)

@@ -13,8 +13,8 @@ use Rattle.words.specs.Words.{words, bytes8}
 use Rattle.text.specs.Text.{line, date, time}
 use Rattle.dates.specs.Calendar.{leapYear, leapYearsTo, newYear, monthLengths, yearOrNext, yearOf, monthsOver, dateInYear, dateFor}
 use Rattle.clock.specs.Leap.{firstEntry, nextEntry, goodEntry, wholePairs, leapLawful, holdsFrom, holds, entryUsed, insertedBy, inserted}
-use Rattle.clock.specs.Clock.{tai, early, localMilli, reading, readOff, dayOfMilli, secondSaid, shownBy, shownIn}
-use Rattle.clock.specs.Answers.{leapJudged}
+use Rattle.clock.specs.Clock.{isZone, utc8, tai, early, localMilli, reading, readOff, dayOfMilli, secondSaid, shownBy, shownIn}
+use Rattle.clock.specs.Answers.{zoneJudged, leapJudged}
 use Rattle.clock.specs.Examples.{table}
 use Rattle.chebyshev.specs.Polynomials.{P}
 use Rattle.chebyshev.specs.Segment.{sum, value, slope}
@@ -55,19 +55,19 @@ threeLines =
     ∷ line 77 1 (date 2000 1 1) (time 7 58 56 816)
     ∷ []
 
-lines-are : linesOf (under table) ≡ threeLines
+lines-are : linesOf (under table) utc8 ≡ threeLines
 unfolding lineOf leapYear leapYearsTo newYear monthLengths yearOrNext yearOf monthsOver dateInYear dateFor floorDiv floorMod holdsFrom holds lastBelow entryUsed any insertedBy inserted tai localMilli reading readOff dayOfMilli secondSaid shownBy shownIn
-lines-are = ap₂ (linesBy table) sun-lists moon-lists
+lines-are = ap₂ (linesBy table utc8) sun-lists moon-lists
 
-is-listed : listed (under table) ≡ answered threeLines
+is-listed : listed (under table) utc8 ≡ answered threeLines
 unfolding listed
 is-listed = ap₂ (λ (v : Verdict (Unit {0})) (l : List (List ℕ)). v before answered l) all-good lines-are
 
-bytes-are : listedBytes (inBytes inputWords) ≡ listed (under table)
-unfolding listedBytes listedWords words places sectionEnd
+bytes-are : listedBytes (inBytes inputWords) utc8 ≡ listed (under table) utc8
+unfolding listedBytes zoneJudged isZone listedWords words places sectionEnd
 bytes-are = refl
 
-pub worked-listing : listing (inBytes inputWords) ≡ threeLines
+pub worked-listing : listing (inBytes inputWords) utc8 ≡ threeLines
 worked-listing = ap printed (bytes-are ∙ is-listed)
 
 -- a table that begins on day 0 is later than the Moon's mark, at second 1, and no other

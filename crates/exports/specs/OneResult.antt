@@ -8,7 +8,7 @@ use lib.ListN.{length}
 use Rattle.refusals.specs.Verdict.{Verdict, answered, one-content}
 use Rattle.refusals.specs.Lent.{writtenInto}
 use Rattle.dates.specs.Answers.{dateOf, dayOf}
-use Rattle.clock.specs.Clock.{utc8, dayOfMilli}
+use Rattle.clock.specs.Clock.{dayOfMilli}
 use Rattle.clock.specs.Answers.{leapJudged, milliOf, dayOfSecond, shownOf}
 use Rattle.series.specs.Series.{Series}
 use Rattle.series.specs.Acceptance.{seriesJudged, valueOf}
@@ -57,14 +57,14 @@ module _ (leap : List ℤ) where
   pub hzk-judge-leap-table-one-result : OneResult (leapJudged leap) noNumbers
   hzk-judge-leap-table-one-result = one-result (leapJudged leap) noNumbers
 
-  pub hzk-milli-of-one-result : (s : Second) → OneResult (milliOf leap s) milliNumbers
-  hzk-milli-of-one-result s = one-result (milliOf leap s) milliNumbers
+  pub hzk-milli-of-one-result : (s : Second) (zone : ℤ) → OneResult (milliOf leap s zone) milliNumbers
+  hzk-milli-of-one-result s zone = one-result (milliOf leap s zone) milliNumbers
 
-  pub hzk-day-of-second-one-result : (s : Second) → OneResult (dayOfSecond leap s) dayNumbers
-  hzk-day-of-second-one-result s = one-result (dayOfSecond leap s) dayNumbers
+  pub hzk-day-of-second-one-result : (s : Second) (zone : ℤ) → OneResult (dayOfSecond leap s zone) dayNumbers
+  hzk-day-of-second-one-result s zone = one-result (dayOfSecond leap s zone) dayNumbers
 
-  pub hzk-shown-one-result : (s : Second) → OneResult (shownOf leap s) shownNumbers
-  hzk-shown-one-result s = one-result (shownOf leap s) shownNumbers
+  pub hzk-shown-one-result : (s : Second) (zone : ℤ) → OneResult (shownOf leap s zone) shownNumbers
+  hzk-shown-one-result s zone = one-result (shownOf leap s zone) shownNumbers
 
 -- ---- series and marks
 module _ (s : Series) where
@@ -104,17 +104,17 @@ module _ (i : Inputs) where
   pub hzk-judge-inputs-one-result : OneResult (inputsJudged i) noNumbers
   hzk-judge-inputs-one-result = one-result (inputsJudged i) noNumbers
 
-  pub hzk-sui-one-result : (year : ℤ) (months : List ℤ) → OneResult (suiInto (suiFor i utc8 year) (length months)) suiNumbers
-  hzk-sui-one-result year months = one-result (suiInto (suiFor i utc8 year) (length months)) suiNumbers
+  pub hzk-sui-one-result : (zone year : ℤ) (months : List ℤ) → OneResult (suiInto (suiFor i zone year) (length months)) suiNumbers
+  hzk-sui-one-result zone year months = one-result (suiInto (suiFor i zone year) (length months)) suiNumbers
 
-  pub hzk-sui-one-content : (year : ℤ) (months : List ℤ) → OneContent (suiInto (suiFor i utc8 year) (length months)) suiWords months
-  hzk-sui-one-content year months = one-content
+  pub hzk-sui-one-content : (zone year : ℤ) (months : List ℤ) → OneContent (suiInto (suiFor i zone year) (length months)) suiWords months
+  hzk-sui-one-content zone year months = one-content
 
-  module _ (first count : ℤ) (file : List ℕ) where
-    pub hzk-build-one-result : OneResult (fileBuilt i utc8 first count (length file)) countNumbers
-    hzk-build-one-result = one-result (fileBuilt i utc8 first count (length file)) countNumbers
+  module _ (zone first count : ℤ) (file : List ℕ) where
+    pub hzk-build-one-result : OneResult (fileBuilt i zone first count (length file)) countNumbers
+    hzk-build-one-result = one-result (fileBuilt i zone first count (length file)) countNumbers
 
-    pub hzk-build-one-content : OneContent (bytesBuilt i utc8 first count (length file)) all-bytes file
+    pub hzk-build-one-content : OneContent (bytesBuilt i zone first count (length file)) all-bytes file
     hzk-build-one-content = one-content
 
 -- ---- the almanac file
@@ -137,12 +137,12 @@ module _ (c : Content) (file : List ℕ) where
   hzk-write-file-one-content = one-content
 
 -- ---- the rebuild
-module _ (old new : Inputs) (oldFile file : List ℕ) (years : List ℤ) where
-  pub hzk-rebuild-one-result : OneResult (counted (rebuilt old new utc8 oldFile (length file) (length years))) rebuiltNumbers
-  hzk-rebuild-one-result = one-result (counted (rebuilt old new utc8 oldFile (length file) (length years))) rebuiltNumbers
+module _ (old new : Inputs) (zone : ℤ) (oldFile file : List ℕ) (years : List ℤ) where
+  pub hzk-rebuild-one-result : OneResult (counted (rebuilt old new zone oldFile (length file) (length years))) rebuiltNumbers
+  hzk-rebuild-one-result = one-result (counted (rebuilt old new zone oldFile (length file) (length years))) rebuiltNumbers
 
-  pub hzk-rebuild-one-content : OneContent (rebuilt old new utc8 oldFile (length file) (length years)) new-bytes file
+  pub hzk-rebuild-one-content : OneContent (rebuilt old new zone oldFile (length file) (length years)) new-bytes file
   hzk-rebuild-one-content = one-content
 
-  pub hzk-rebuild-one-list : OneContent (rebuilt old new utc8 oldFile (length file) (length years)) kept-years years
+  pub hzk-rebuild-one-list : OneContent (rebuilt old new zone oldFile (length file) (length years)) kept-years years
   hzk-rebuild-one-list = one-content

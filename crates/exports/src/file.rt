@@ -4,7 +4,6 @@ use times::Second;
 ghost use mathlib.Core.Path.{_≡_};
 ghost use lib.ListN.{length};
 ghost use Rattle.refusals.specs.Lent.{writtenInto};
-ghost use Rattle.clock.specs.Clock.{utc8};
 ghost use Rattle.inputs.specs.Inputs.{inputs};
 ghost use Rattle.content.specs.Content.{content, leap-words, sui-words, month-words};
 ghost use Rattle.almanac.specs.Answers.{checkedFile, contentRead, readFile, bytesToWrite, all-bytes, writtenFile};
@@ -57,7 +56,7 @@ pub extern "C" fn hzk_write_file(
     record::tell(record::written_record(written), answer)
 }
 
-// Builds a file of `count` suis from year `first` on.
+// Builds a file of `count` suis from year `first` on, by the days of a zone.
 #[no_mangle]
 pub extern "C" fn hzk_build(
     leap: &[i64],
@@ -65,14 +64,15 @@ pub extern "C" fn hzk_build(
     sun: &[i64],
     moonstart: i64,
     moon: &[i64],
+    zone: i64,
     first: i64,
     count: i64,
     file: &mut [u8],
     answer: &mut [i64; 9],
 ) -> i64
-    ensures { λ r. ⌜ r ≡ numberOf (fileBuilt (inputs (now (leap .entry)) sunstart (now (sun .entry)) moonstart (now (moon .entry))) utc8 first count (length (now (file .entry)))) ⌝ }
-    ensures { λ r. ⌜ now (answer .exit) ≡ recordOf (fileBuilt (inputs (now (leap .entry)) sunstart (now (sun .entry)) moonstart (now (moon .entry))) utc8 first count (length (now (file .entry)))) countNumbers ⌝ }
-    ensures { λ r. ⌜ now (file .exit) ≡ writtenInto (bytesBuilt (inputs (now (leap .entry)) sunstart (now (sun .entry)) moonstart (now (moon .entry))) utc8 first count (length (now (file .entry)))) all-bytes (now (file .entry)) ⌝ }
+    ensures { λ r. ⌜ r ≡ numberOf (fileBuilt (inputs (now (leap .entry)) sunstart (now (sun .entry)) moonstart (now (moon .entry))) zone first count (length (now (file .entry)))) ⌝ }
+    ensures { λ r. ⌜ now (answer .exit) ≡ recordOf (fileBuilt (inputs (now (leap .entry)) sunstart (now (sun .entry)) moonstart (now (moon .entry))) zone first count (length (now (file .entry)))) countNumbers ⌝ }
+    ensures { λ r. ⌜ now (file .exit) ≡ writtenInto (bytesBuilt (inputs (now (leap .entry)) sunstart (now (sun .entry)) moonstart (now (moon .entry))) zone first count (length (now (file .entry)))) all-bytes (now (file .entry)) ⌝ }
 {
     let built = build::build(
         leap,
@@ -80,6 +80,7 @@ pub extern "C" fn hzk_build(
         sun,
         Second(moonstart),
         moon,
+        zone,
         first,
         count,
         file,
@@ -87,7 +88,7 @@ pub extern "C" fn hzk_build(
     record::tell(record::written_record(built), answer)
 }
 
-// Rebuilds an old file from new inputs, and lists the years of the suis whose days stay as they were.
+// Rebuilds an old file from new inputs, by the days of a zone, and lists the years of the suis whose days stay as they were.
 #[no_mangle]
 pub extern "C" fn hzk_rebuild(
     old: &[u8],
@@ -101,14 +102,15 @@ pub extern "C" fn hzk_rebuild(
     sun: &[i64],
     moonstart: i64,
     moon: &[i64],
+    zone: i64,
     file: &mut [u8],
     years: &mut [i64],
     answer: &mut [i64; 9],
 ) -> i64
-    ensures { λ r. ⌜ r ≡ numberOf (counted (rebuilt (inputs (now (oldleap .entry)) oldsunstart (now (oldsun .entry)) oldmoonstart (now (oldmoon .entry))) (inputs (now (leap .entry)) sunstart (now (sun .entry)) moonstart (now (moon .entry))) utc8 (now (old .entry)) (length (now (file .entry))) (length (now (years .entry))))) ⌝ }
-    ensures { λ r. ⌜ now (answer .exit) ≡ recordOf (counted (rebuilt (inputs (now (oldleap .entry)) oldsunstart (now (oldsun .entry)) oldmoonstart (now (oldmoon .entry))) (inputs (now (leap .entry)) sunstart (now (sun .entry)) moonstart (now (moon .entry))) utc8 (now (old .entry)) (length (now (file .entry))) (length (now (years .entry))))) rebuiltNumbers ⌝ }
-    ensures { λ r. ⌜ now (file .exit) ≡ writtenInto (rebuilt (inputs (now (oldleap .entry)) oldsunstart (now (oldsun .entry)) oldmoonstart (now (oldmoon .entry))) (inputs (now (leap .entry)) sunstart (now (sun .entry)) moonstart (now (moon .entry))) utc8 (now (old .entry)) (length (now (file .entry))) (length (now (years .entry)))) new-bytes (now (file .entry)) ⌝ }
-    ensures { λ r. ⌜ now (years .exit) ≡ writtenInto (rebuilt (inputs (now (oldleap .entry)) oldsunstart (now (oldsun .entry)) oldmoonstart (now (oldmoon .entry))) (inputs (now (leap .entry)) sunstart (now (sun .entry)) moonstart (now (moon .entry))) utc8 (now (old .entry)) (length (now (file .entry))) (length (now (years .entry)))) kept-years (now (years .entry)) ⌝ }
+    ensures { λ r. ⌜ r ≡ numberOf (counted (rebuilt (inputs (now (oldleap .entry)) oldsunstart (now (oldsun .entry)) oldmoonstart (now (oldmoon .entry))) (inputs (now (leap .entry)) sunstart (now (sun .entry)) moonstart (now (moon .entry))) zone (now (old .entry)) (length (now (file .entry))) (length (now (years .entry))))) ⌝ }
+    ensures { λ r. ⌜ now (answer .exit) ≡ recordOf (counted (rebuilt (inputs (now (oldleap .entry)) oldsunstart (now (oldsun .entry)) oldmoonstart (now (oldmoon .entry))) (inputs (now (leap .entry)) sunstart (now (sun .entry)) moonstart (now (moon .entry))) zone (now (old .entry)) (length (now (file .entry))) (length (now (years .entry))))) rebuiltNumbers ⌝ }
+    ensures { λ r. ⌜ now (file .exit) ≡ writtenInto (rebuilt (inputs (now (oldleap .entry)) oldsunstart (now (oldsun .entry)) oldmoonstart (now (oldmoon .entry))) (inputs (now (leap .entry)) sunstart (now (sun .entry)) moonstart (now (moon .entry))) zone (now (old .entry)) (length (now (file .entry))) (length (now (years .entry)))) new-bytes (now (file .entry)) ⌝ }
+    ensures { λ r. ⌜ now (years .exit) ≡ writtenInto (rebuilt (inputs (now (oldleap .entry)) oldsunstart (now (oldsun .entry)) oldmoonstart (now (oldmoon .entry))) (inputs (now (leap .entry)) sunstart (now (sun .entry)) moonstart (now (moon .entry))) zone (now (old .entry)) (length (now (file .entry))) (length (now (years .entry)))) kept-years (now (years .entry)) ⌝ }
 {
     let rebuilt = rebuild::rebuild(
         old,
@@ -122,6 +124,7 @@ pub extern "C" fn hzk_rebuild(
         sun,
         Second(moonstart),
         moon,
+        zone,
         file,
         years,
     );

@@ -7,7 +7,6 @@ use times::Second;
 ghost use mathlib.Core.Path.{_≡_};
 ghost use lib.ListN.{length};
 ghost use Rattle.refusals.specs.Lent.{writtenInto};
-ghost use Rattle.clock.specs.Clock.{utc8};
 ghost use Rattle.inputs.specs.Inputs.{inputs};
 ghost use Rattle.months.specs.Limits.{monthsOf};
 ghost use Rattle.months.specs.Answers.{paperSui};
@@ -53,7 +52,7 @@ pub extern "C" fn hzk_months_of(
     record::tell(stored, answer)
 }
 
-// The months of the sui of a year, from leap table and series.
+// The months of the sui of a year, from leap table and series, by the days of a zone.
 #[no_mangle]
 pub extern "C" fn hzk_sui(
     leap: &[i64],
@@ -61,15 +60,24 @@ pub extern "C" fn hzk_sui(
     sun: &[i64],
     moonstart: i64,
     moon: &[i64],
+    zone: i64,
     year: i64,
     months: &mut [i64],
     answer: &mut [i64; 9],
 ) -> i64
-    ensures { λ r. ⌜ r ≡ numberOf (suiInto (suiFor (inputs (now (leap .entry)) sunstart (now (sun .entry)) moonstart (now (moon .entry))) utc8 year) (length (now (months .entry)))) ⌝ }
-    ensures { λ r. ⌜ now (answer .exit) ≡ recordOf (suiInto (suiFor (inputs (now (leap .entry)) sunstart (now (sun .entry)) moonstart (now (moon .entry))) utc8 year) (length (now (months .entry)))) suiNumbers ⌝ }
-    ensures { λ r. ⌜ now (months .exit) ≡ writtenInto (suiInto (suiFor (inputs (now (leap .entry)) sunstart (now (sun .entry)) moonstart (now (moon .entry))) utc8 year) (length (now (months .entry)))) suiWords (now (months .entry)) ⌝ }
+    ensures { λ r. ⌜ r ≡ numberOf (suiInto (suiFor (inputs (now (leap .entry)) sunstart (now (sun .entry)) moonstart (now (moon .entry))) zone year) (length (now (months .entry)))) ⌝ }
+    ensures { λ r. ⌜ now (answer .exit) ≡ recordOf (suiInto (suiFor (inputs (now (leap .entry)) sunstart (now (sun .entry)) moonstart (now (moon .entry))) zone year) (length (now (months .entry)))) suiNumbers ⌝ }
+    ensures { λ r. ⌜ now (months .exit) ≡ writtenInto (suiInto (suiFor (inputs (now (leap .entry)) sunstart (now (sun .entry)) moonstart (now (moon .entry))) zone year) (length (now (months .entry)))) suiWords (now (months .entry)) ⌝ }
 {
-    let found = one_sui::sui(leap, Second(sunstart), sun, Second(moonstart), moon, year);
+    let found = one_sui::sui(
+        leap,
+        Second(sunstart),
+        sun,
+        Second(moonstart),
+        moon,
+        zone,
+        year,
+    );
     let stored = store(found, months);
     record::tell(stored, answer)
 }

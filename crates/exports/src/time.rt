@@ -45,31 +45,36 @@ pub extern "C" fn hzk_judge_leap_table(leap: &[i64], answer: &mut [i64; 9]) -> i
     )
 }
 
-// The UTC+8 millisecond of a second.
+// The zone's millisecond of a second.
 #[no_mangle]
-pub extern "C" fn hzk_milli_of(leap: &[i64], second: i64, answer: &mut [i64; 9]) -> i64
-    ensures { λ r. ⌜ r ≡ numberOf (milliOf (now (leap .entry)) (record { 0 = second })) ⌝ }
-    ensures { λ r. ⌜ now (answer .exit) ≡ recordOf (milliOf (now (leap .entry)) (record { 0 = second })) milliNumbers ⌝ }
+pub extern "C" fn hzk_milli_of(leap: &[i64], second: i64, zone: i64, answer: &mut [i64; 9]) -> i64
+    ensures { λ r. ⌜ r ≡ numberOf (milliOf (now (leap .entry)) (record { 0 = second }) zone) ⌝ }
+    ensures { λ r. ⌜ now (answer .exit) ≡ recordOf (milliOf (now (leap .entry)) (record { 0 = second }) zone) milliNumbers ⌝ }
 {
     record::tell(
-        record::milli_record(conversion::milli_of(leap, Second(second))),
+        record::milli_record(conversion::milli_of(leap, Second(second), zone)),
         answer,
     )
 }
 
-// The UTC+8 day of a second.
+// The zone's day of a second.
 #[no_mangle]
-pub extern "C" fn hzk_day_of_second(leap: &[i64], second: i64, answer: &mut [i64; 9]) -> i64
-    ensures { λ r. ⌜ r ≡ numberOf (dayOfSecond (now (leap .entry)) (record { 0 = second })) ⌝ }
-    ensures { λ r. ⌜ now (answer .exit) ≡ recordOf (dayOfSecond (now (leap .entry)) (record { 0 = second })) dayNumbers ⌝ }
+pub extern "C" fn hzk_day_of_second(
+    leap: &[i64],
+    second: i64,
+    zone: i64,
+    answer: &mut [i64; 9],
+) -> i64
+    ensures { λ r. ⌜ r ≡ numberOf (dayOfSecond (now (leap .entry)) (record { 0 = second }) zone) ⌝ }
+    ensures { λ r. ⌜ now (answer .exit) ≡ recordOf (dayOfSecond (now (leap .entry)) (record { 0 = second }) zone) dayNumbers ⌝ }
 {
     record::tell(
-        record::day_record(conversion::day_of_second(leap, Second(second))),
+        record::day_record(conversion::day_of_second(leap, Second(second), zone)),
         answer,
     )
 }
 
-// The day of a UTC+8 millisecond: it is answered for every number.
+// The day of a zone's millisecond: it is answered for every number.
 #[no_mangle]
 pub extern "C" fn hzk_day_of_milli(milli: i64, answer: &mut [i64; 9]) -> i64
     ensures { λ r. ⌜ r ≡ numberOf (answered (dayOfMilli (record { 0 = milli }))) ⌝ }
@@ -81,14 +86,14 @@ pub extern "C" fn hzk_day_of_milli(milli: i64, answer: &mut [i64; 9]) -> i64
     )
 }
 
-// The UTC+8 date and time of a second.
+// The zone's date and time of a second.
 #[no_mangle]
-pub extern "C" fn hzk_shown(leap: &[i64], second: i64, answer: &mut [i64; 9]) -> i64
-    ensures { λ r. ⌜ r ≡ numberOf (shownOf (now (leap .entry)) (record { 0 = second })) ⌝ }
-    ensures { λ r. ⌜ now (answer .exit) ≡ recordOf (shownOf (now (leap .entry)) (record { 0 = second })) shownNumbers ⌝ }
+pub extern "C" fn hzk_shown(leap: &[i64], second: i64, zone: i64, answer: &mut [i64; 9]) -> i64
+    ensures { λ r. ⌜ r ≡ numberOf (shownOf (now (leap .entry)) (record { 0 = second }) zone) ⌝ }
+    ensures { λ r. ⌜ now (answer .exit) ≡ recordOf (shownOf (now (leap .entry)) (record { 0 = second }) zone) shownNumbers ⌝ }
 {
     record::tell(
-        record::shown_record(conversion::shown(leap, Second(second))),
+        record::shown_record(conversion::shown(leap, Second(second), zone)),
         answer,
     )
 }

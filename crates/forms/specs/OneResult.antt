@@ -9,7 +9,6 @@ use Rattle.refusals.specs.Verdict.{paperCheck}
 use Rattle.refusals.specs.Lent.{writtenInto}
 use Rattle.refusals.specs.declared.Check.{Check}
 use Rattle.times.specs.declared.Second.{Second}
-use Rattle.clock.specs.Clock.{utc8}
 use Rattle.series.specs.declared.Body.{Body}
 use Rattle.series.specs.declared.ValueAnswer.{ValueAnswer}
 use Rattle.series.specs.Acceptance.{seriesJudged, valueOf, paperValue}
@@ -58,19 +57,19 @@ module _ (body : Body) (s : Series) where
 pub judge-one-result : (leap : List ℤ) (sun moon : Series) (a b : Check) → paperCheck a ≡ inputsJudged (inputsOf leap sun moon) → paperCheck b ≡ inputsJudged (inputsOf leap sun moon) → a ≡ b
 judge-one-result leap sun moon = of-inputs.judge-one-result (inputsOf leap sun moon)
 
-pub sui-one-result : (leap : List ℤ) (sun moon : Series) (year : ℤ) (a b : SuiAnswer) → a ≡ suiAnswer (suiFor (inputsOf leap sun moon) utc8 year) → b ≡ suiAnswer (suiFor (inputsOf leap sun moon) utc8 year) → a ≡ b
-sui-one-result leap sun moon year = of-sui.sui-one-result (inputsOf leap sun moon) utc8 year
+pub sui-one-result : (leap : List ℤ) (sun moon : Series) (zone year : ℤ) (a b : SuiAnswer) → a ≡ suiAnswer (suiFor (inputsOf leap sun moon) zone year) → b ≡ suiAnswer (suiFor (inputsOf leap sun moon) zone year) → a ≡ b
+sui-one-result leap sun moon zone year = of-sui.sui-one-result (inputsOf leap sun moon) zone year
 
-module _ (leap : List ℤ) (sun moon : Series) (first count : ℤ) where
-  pub build-one-result : (room : ℕ) (a b : WriteAnswer) → paperWritten a ≡ fileBuilt (inputsOf leap sun moon) utc8 first count room → paperWritten b ≡ fileBuilt (inputsOf leap sun moon) utc8 first count room → a ≡ b
-  build-one-result = of-build.build-one-result (inputsOf leap sun moon) utc8 first count
+module _ (leap : List ℤ) (sun moon : Series) (zone first count : ℤ) where
+  pub build-one-result : (room : ℕ) (a b : WriteAnswer) → paperWritten a ≡ fileBuilt (inputsOf leap sun moon) zone first count room → paperWritten b ≡ fileBuilt (inputsOf leap sun moon) zone first count room → a ≡ b
+  build-one-result = of-build.build-one-result (inputsOf leap sun moon) zone first count
 
-  pub build-one-content : (file a b : List ℕ) → a ≡ writtenInto (bytesBuilt (inputsOf leap sun moon) utc8 first count (length file)) all-bytes file → b ≡ writtenInto (bytesBuilt (inputsOf leap sun moon) utc8 first count (length file)) all-bytes file → a ≡ b
-  build-one-content = of-build.build-one-content (inputsOf leap sun moon) utc8 first count
+  pub build-one-content : (file a b : List ℕ) → a ≡ writtenInto (bytesBuilt (inputsOf leap sun moon) zone first count (length file)) all-bytes file → b ≡ writtenInto (bytesBuilt (inputsOf leap sun moon) zone first count (length file)) all-bytes file → a ≡ b
+  build-one-content = of-build.build-one-content (inputsOf leap sun moon) zone first count
 
-module _ (leap : List ℤ) (sun moon : Series) (year : ℤ) (out : List Month) where
-  pub sui-into-one-result : (a b : MonthsAnswer) → paperMonths a ≡ recordsCounted (recordsInto (suiFor (inputsOf leap sun moon) utc8 year) (length out)) → paperMonths b ≡ recordsCounted (recordsInto (suiFor (inputsOf leap sun moon) utc8 year) (length out)) → a ≡ b
-  sui-into-one-result = of-records.sui-into-one-result (inputsOf leap sun moon) year out
+module _ (leap : List ℤ) (sun moon : Series) (zone year : ℤ) (out : List Month) where
+  pub sui-into-one-result : (a b : MonthsAnswer) → paperMonths a ≡ recordsCounted (recordsInto (suiFor (inputsOf leap sun moon) zone year) (length out)) → paperMonths b ≡ recordsCounted (recordsInto (suiFor (inputsOf leap sun moon) zone year) (length out)) → a ≡ b
+  sui-into-one-result = of-records.sui-into-one-result (inputsOf leap sun moon) zone year out
 
-  pub sui-into-one-content : (a b : List Month) → a ≡ writtenInto (recordsInto (suiFor (inputsOf leap sun moon) utc8 year) (length out)) all-records out → b ≡ writtenInto (recordsInto (suiFor (inputsOf leap sun moon) utc8 year) (length out)) all-records out → a ≡ b
-  sui-into-one-content = of-records.sui-into-one-content (inputsOf leap sun moon) year out
+  pub sui-into-one-content : (a b : List Month) → a ≡ writtenInto (recordsInto (suiFor (inputsOf leap sun moon) zone year) (length out)) all-records out → b ≡ writtenInto (recordsInto (suiFor (inputsOf leap sun moon) zone year) (length out)) all-records out → a ≡ b
+  sui-into-one-content = of-records.sui-into-one-content (inputsOf leap sun moon) zone year out

@@ -17,7 +17,6 @@ ghost use Rattle.refusals.specs.Lent.{writtenInto};
 ghost use Rattle.series.specs.Acceptance.{seriesJudged, valueOf, paperValue};
 ghost use Rattle.marks.specs.Answers.{paperCount, paperList, countedMarks, listedInto, wordsListed};
 ghost use Rattle.months.specs.Answers.{suiAnswer};
-ghost use Rattle.clock.specs.Clock.{utc8};
 ghost use Rattle.inputs.specs.Inputs.{inputsJudged};
 ghost use Rattle.sui.specs.Sui.{suiFor};
 ghost use Rattle.almanac.specs.Answers.{paperWritten, all-bytes};
@@ -74,11 +73,25 @@ pub fn judge<'l, 'a, 'b>(leap: &'l [i64], sun: Series<'a>, moon: Series<'b>) -> 
     inputs::judge(leap, sun.start, sun.coefs, moon.start, moon.coefs)
 }
 
-// The months of sui `year`, by UTC+8 days.
-pub fn sui<'l, 'a, 'b>(leap: &'l [i64], sun: Series<'a>, moon: Series<'b>, year: i64) -> SuiAnswer
-    ensures { λ r. ⌜ r ≡ suiAnswer (suiFor (inputsOf (now (leap .entry)) (sun .entry) (moon .entry)) utc8 year) ⌝ }
+// The months of sui `year`, by the days of a zone.
+pub fn sui<'l, 'a, 'b>(
+    leap: &'l [i64],
+    sun: Series<'a>,
+    moon: Series<'b>,
+    zone: i64,
+    year: i64,
+) -> SuiAnswer
+    ensures { λ r. ⌜ r ≡ suiAnswer (suiFor (inputsOf (now (leap .entry)) (sun .entry) (moon .entry)) zone year) ⌝ }
 {
-    one_sui::sui(leap, sun.start, sun.coefs, moon.start, moon.coefs, year)
+    one_sui::sui(
+        leap,
+        sun.start,
+        sun.coefs,
+        moon.start,
+        moon.coefs,
+        zone,
+        year,
+    )
 }
 
 // The same in a lent list of records: both named forms at once.
@@ -86,11 +99,12 @@ pub fn sui_into<'l, 'a, 'b>(
     leap: &'l [i64],
     sun: Series<'a>,
     moon: Series<'b>,
+    zone: i64,
     year: i64,
     out: &mut [Month],
 ) -> MonthsAnswer
-    ensures { λ r. ⌜ paperMonths r ≡ recordsCounted (recordsInto (suiFor (inputsOf (now (leap .entry)) (sun .entry) (moon .entry)) utc8 year) (length (now (out .entry)))) ⌝ }
-    ensures { λ r. ⌜ now (out .exit) ≡ writtenInto (recordsInto (suiFor (inputsOf (now (leap .entry)) (sun .entry) (moon .entry)) utc8 year) (length (now (out .entry)))) all-records (now (out .entry)) ⌝ }
+    ensures { λ r. ⌜ paperMonths r ≡ recordsCounted (recordsInto (suiFor (inputsOf (now (leap .entry)) (sun .entry) (moon .entry)) zone year) (length (now (out .entry)))) ⌝ }
+    ensures { λ r. ⌜ now (out .exit) ≡ writtenInto (recordsInto (suiFor (inputsOf (now (leap .entry)) (sun .entry) (moon .entry)) zone year) (length (now (out .entry)))) all-records (now (out .entry)) ⌝ }
 {
     records::sui_into(
         leap,
@@ -98,22 +112,24 @@ pub fn sui_into<'l, 'a, 'b>(
         sun.coefs,
         moon.start,
         moon.coefs,
+        zone,
         year,
         out,
     )
 }
 
-// The almanac file of `count` suis from year `first` on, by UTC+8 days, in a lent slice. Everything is judged before the first byte is written.
+// The almanac file of `count` suis from year `first` on, by the days of a zone, in a lent slice. Everything is judged before the first byte is written.
 pub fn build<'l, 'a, 'b>(
     leap: &'l [i64],
     sun: Series<'a>,
     moon: Series<'b>,
+    zone: i64,
     first: i64,
     count: i64,
     file: &mut [u8],
 ) -> WriteAnswer
-    ensures { λ r. ⌜ paperWritten r ≡ fileBuilt (inputsOf (now (leap .entry)) (sun .entry) (moon .entry)) utc8 first count (length (now (file .entry))) ⌝ }
-    ensures { λ r. ⌜ now (file .exit) ≡ writtenInto (bytesBuilt (inputsOf (now (leap .entry)) (sun .entry) (moon .entry)) utc8 first count (length (now (file .entry)))) all-bytes (now (file .entry)) ⌝ }
+    ensures { λ r. ⌜ paperWritten r ≡ fileBuilt (inputsOf (now (leap .entry)) (sun .entry) (moon .entry)) zone first count (length (now (file .entry))) ⌝ }
+    ensures { λ r. ⌜ now (file .exit) ≡ writtenInto (bytesBuilt (inputsOf (now (leap .entry)) (sun .entry) (moon .entry)) zone first count (length (now (file .entry)))) all-bytes (now (file .entry)) ⌝ }
 {
     build::build(
         leap,
@@ -121,6 +137,7 @@ pub fn build<'l, 'a, 'b>(
         sun.coefs,
         moon.start,
         moon.coefs,
+        zone,
         first,
         count,
         file,

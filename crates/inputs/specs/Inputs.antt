@@ -1,5 +1,6 @@
 -- What every build begins with: a leap table, the Sun's series and the Moon's, judged together in a build's order (document 01, "Refusal numbers"): 1, then 2 to 5
--- for the whole Sun series, then for the whole Moon series, then 7 for any listed mark. And the day of a mark. Assumes nothing: these are definitions.
+-- for the whole Sun series, then for the whole Moon series, then 7 for any listed mark; 15 for a zone before all of it. And the day of a mark. Assumes nothing: these
+-- are definitions.
 use mathlib.Core.Path.{_≡_}
 use mathlib.Core.Bool.{Bool, false, _||_}
 use mathlib.Core.List.{List, [], _∷_}
@@ -8,7 +9,7 @@ use Rattle.refusals.specs.Verdict.{Verdict, accepted, refuseWhen, _before_}
 use Rattle.times.specs.declared.Day.{Day}
 use Rattle.times.specs.declared.Second.{Second}
 use Rattle.clock.specs.Clock.{early, dayIn}
-use Rattle.clock.specs.Answers.{leapJudged}
+use Rattle.clock.specs.Answers.{zoneJudged, leapJudged}
 use Rattle.series.specs.declared.Body.{Body}
 use Rattle.series.specs.declared.Body.the-variants.{Sun, Moon}
 use Rattle.series.specs.Series.{Series, series}
@@ -52,6 +53,10 @@ inputsJudged i =
     before seriesJudged (sun i)
     before seriesJudged (moon i)
     before refuseWhen (anyEarly (i .leap) (listedMarks (sun i)) || anyEarly (i .leap) (listedMarks (moon i))) 7
+
+-- for a call that answers in a zone: "zone out of range, checked first of all" (document 02, order 5)
+unfoldable pub judgedIn : Inputs → ℤ → Verdict (Unit {0})
+judgedIn i zone = zoneJudged zone before inputsJudged i
 
 abbrev pub InputsAccepted : Inputs → Type 0
 InputsAccepted i = inputsJudged i ≡ accepted

@@ -11,16 +11,18 @@ use lib.Signed.{_≤ℤ_, _<ℤ_}
 use Rattle.whole.specs.Parts.{_⩽_}
 use Rattle.whole.specs.Laws.{<→≤, ≤-total, ≤-antisymm, ≤-of-≡}
 use Rattle.whole.specs.Booleans.{neither}
+use Rattle.whole.specs.Ranges.{Within}
 use Rattle.refusals.specs.Verdict.{accepted, refuseWhen, before-accepted, refuseWhen-accepted, one-result, paperCheck, checks-apart, _before_}
 use Rattle.refusals.specs.declared.Check.{Check}
 use Rattle.clock.specs.Leap.{leapLawful}
 use Rattle.clock.specs.Clock.{dayIn}
-use Rattle.clock.specs.Answers.{leapJudged}
+use Rattle.clock.specs.Answers.{zoneJudged, leapJudged}
 use Rattle.clock.specs.Theorems.{days-never-go-back}
+use Rattle.clock.specs.theory.Judged.{zone-known}
 use Rattle.series.specs.Series.{Series}
 use Rattle.marks.specs.Listed.{listedMarks, firstReached, lastReached, secondOfMark}
 use Rattle.marks.specs.Theorems.{later-marks-are-later}
-use Rattle.inputs.specs.Inputs.{Inputs, sun, moon, anyEarly, inputsJudged, InputsAccepted, dayOfMark}
+use Rattle.inputs.specs.Inputs.{Inputs, sun, moon, anyEarly, inputsJudged, judgedIn, InputsAccepted, dayOfMark}
 use Rattle.inputs.specs.Known.{Ready, Known}
 
 -- ---- accepted exactly when
@@ -52,9 +54,17 @@ accepted-exactly-when i = (
   λ k. rw (known-leap (i .leap) (k .sun-ready .lawful-table), k .sun-ready .is-accepted, k .moon-ready .is-accepted, k .sun-ready .none-early, k .moon-ready .none-early),
 )
 
--- ---- any two results that the judge may give are the same result
+-- in a zone: the zone is one, and small, and the inputs are accepted
+pub accepted-in : (i : Inputs) (zone : ℤ) → judgedIn i zone ≡ accepted → Within 1000 zone × InputsAccepted i
+unfolding judgedIn
+accepted-in i zone e = let a = before-accepted (zoneJudged zone) (inputsJudged i) e in (zone-known zone (a .0), a .1)
+
+-- ---- any two results that a judge may give are the same result
 pub judge-one-result : (i : Inputs) (a b : Check) → paperCheck a ≡ inputsJudged i → paperCheck b ≡ inputsJudged i → a ≡ b
 judge-one-result i a b = one-result paperCheck checks-apart a b
+
+pub judge-in-one-result : (i : Inputs) (zone : ℤ) (a b : Check) → paperCheck a ≡ judgedIn i zone → paperCheck b ≡ judgedIn i zone → a ≡ b
+judge-in-one-result i zone a b = one-result paperCheck checks-apart a b
 
 -- ---- of a ready series: days of marks rise with the index
 pub mark-days-rise : (leap : List ℤ) (s : Series) → Ready leap s → (j k : ℤ) → firstReached s <ℤ j → j ≤ℤ k → k ≤ℤ lastReached s → (zone : ℤ) → dayOfMark leap s zone j .0 ⩽ dayOfMark leap s zone k .0

@@ -1,10 +1,11 @@
 // Leap table, Sun and Moon, judged together: what every build begins with.
+use conversion::inner::is_zone;
 use refusals::Check;
 use series::Body;
 use times::Second;
 ghost use mathlib.Core.Path.{_≡_};
 ghost use Rattle.refusals.specs.Verdict.{paperCheck};
-ghost use Rattle.inputs.specs.Inputs.{inputs, inputsJudged};
+ghost use Rattle.inputs.specs.Inputs.{inputs, inputsJudged, judgedIn};
 
 pub mod inner;
 
@@ -32,4 +33,21 @@ pub fn judge(leap: &[i64], sunstart: Second, sun: &[i64], moonstart: Second, moo
         return Check::Refused(refusals::TOO_EARLY);
     }
     Check::Accepted
+}
+
+// The same for a call that answers in a zone: the zone is judged first of all (15).
+pub fn judge_in(
+    leap: &[i64],
+    sunstart: Second,
+    sun: &[i64],
+    moonstart: Second,
+    moon: &[i64],
+    zone: i64,
+) -> Check
+    ensures { λ r. ⌜ paperCheck r ≡ judgedIn (inputs (now (leap .entry)) (sunstart .0) (now (sun .entry)) (moonstart .0) (now (moon .entry))) zone ⌝ }
+{
+    if !is_zone(zone) {
+        return Check::Refused(refusals::ZONE);
+    }
+    judge(leap, sunstart, sun, moonstart, moon)
 }

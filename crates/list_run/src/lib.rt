@@ -1,4 +1,4 @@
-// All of the listing program: from a descriptor, which is standard input there, to standard output.
+// All of the listing program: from a descriptor, which is standard input there, to standard output, in UTC+8.
 ghost use mathlib.Core.Path.{_≡_};
 ghost use lib.ListN.{length};
 
@@ -12,7 +12,7 @@ fn input_room() -> [u8; 65537]
 // Prints the lines from `from` on that fit a buffer, and says how many; none when all is printed or the output is closed.
 fn print_from(input: &[u8], from: usize) -> usize {
     let mut out = io::large_buffer();
-    let part = listing::list_part(input, from, &mut out);
+    let part = listing::list_part(input, 480, from, &mut out);
     let bytes = part.bytes;
     if io::write_all(libc::STDOUT_FILENO, &out[..bytes]) {
         part.lines

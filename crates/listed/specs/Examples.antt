@@ -15,8 +15,8 @@ use Rattle.words.specs.Words.{words}
 use Rattle.text.specs.Text.{line, date, time}
 use Rattle.dates.specs.Calendar.{leapYear, leapYearsTo, newYear, monthLengths, yearOrNext, yearOf, monthsOver, dateInYear, dateFor}
 use Rattle.clock.specs.Leap.{leapLawful, wholePairs, firstEntry, nextEntry, goodEntry, holdsFrom, holds, entryUsed, insertedBy, inserted}
-use Rattle.clock.specs.Clock.{tai, localMilli, reading, readOff, dayOfMilli, secondSaid, shownBy, shownIn}
-use Rattle.clock.specs.Answers.{leapJudged}
+use Rattle.clock.specs.Clock.{isZone, utc8, tai, localMilli, reading, readOff, dayOfMilli, secondSaid, shownBy, shownIn}
+use Rattle.clock.specs.Answers.{zoneJudged, leapJudged}
 use Rattle.series.specs.declared.Body.the-variants.{Sun, Moon}
 use Rattle.marks.specs.Marks.{Mark}
 use Rattle.inputs.specs.Inputs.{Inputs, inputsJudged}
@@ -84,7 +84,7 @@ abbrev inside : Mark
 inside = record { index = pos 0; second = pos 189388865 }
 
 unfoldable pub examples : List Bool
-unfolding sectionEnd places lineOf listed listedWords listedBytes words inputsJudged leapJudged leapLawful wholePairs firstEntry nextEntry goodEntry every leapYear leapYearsTo newYear monthLengths yearOrNext yearOf monthsOver dateInYear dateFor floorDiv floorMod holdsFrom holds lastBelow entryUsed any insertedBy inserted tai localMilli reading readOff dayOfMilli secondSaid shownBy shownIn
+unfolding sectionEnd places lineOf listed listedWords listedBytes words inputsJudged leapJudged leapLawful wholePairs firstEntry nextEntry goodEntry every zoneJudged isZone leapYear leapYearsTo newYear monthLengths yearOrNext yearOf monthsOver dateInYear dateFor floorDiv floorMod holdsFrom holds lastBelow entryUsed any insertedBy inserted tai localMilli reading readOff dayOfMilli secondSaid shownBy shownIn
 examples =
     -- where the sections stand; a word less, a word more
     isPlaces 3 19 (places (leap ++ one ++ one))
@@ -99,19 +99,26 @@ examples =
     ∷ isRefused (places (pos 0 ∷ pos 0 ∷ pos 0 ∷ negsuc 0 ∷ pos 0 ∷ [])) 13
     ∷ isRefused (places []) 13
     -- 13 before 1, and 1 where the layout is kept
-    ∷ isRefused (listedWords (badLeap ++ one ++ one ++ pos 0 ∷ [])) 13
-    ∷ isRefused (listedWords (badLeap ++ one ++ one)) 1
+    ∷ isRefused (listedWords (badLeap ++ one ++ one ++ pos 0 ∷ []) utc8) 13
+    ∷ isRefused (listedWords (badLeap ++ one ++ one) utc8) 1
     -- a part of a word; no words
-    ∷ isRefused (listedBytes (replicate 41 0)) 13
-    ∷ isRefused (listedBytes (replicate 40 0)) 1
-    ∷ isRefused (listedBytes []) 13
+    ∷ isRefused (listedBytes (replicate 41 0) utc8) 13
+    ∷ isRefused (listedBytes (replicate 40 0) utc8) 1
+    ∷ isRefused (listedBytes [] utc8) 13
+    -- 15 before 13 and before 1, on both sides of the zones
+    ∷ isRefused (listedBytes [] (pos 841)) 15
+    ∷ isRefused (listedBytes [] (pos 840)) 13
+    ∷ isRefused (listedBytes (replicate 40 0) (negsuc 720)) 15
+    ∷ isRefused (listedBytes (replicate 40 0) (negsuc 719)) 1
     -- S 23 and M 3: mark -1 is the last of a circle
-    ∷ sameNumbers (lineOf Sun table minusOne) (lineThen 83 23)
-    ∷ sameNumbers (lineOf Moon table minusOne) (lineThen 77 3)
+    ∷ sameNumbers (lineOf Sun table utc8 minusOne) (lineThen 83 23)
+    ∷ sameNumbers (lineOf Moon table utc8 minusOne) (lineThen 77 3)
+    -- in UTC+7 an hour less is shown
+    ∷ sameNumbers (lineOf Sun table (pos 420) minusOne) (line 83 23 (date 1999 12 31) (time 22 59 59 816))
     -- an inserted second is the sixtieth
-    ∷ sameNumbers (lineOf Moon longer inside) (line 77 0 (date 2006 1 1) (time 7 59 60 816))
+    ∷ sameNumbers (lineOf Moon longer utc8 inside) (line 77 0 (date 2006 1 1) (time 7 59 60 816))
     -- all of the Sun's lines, then the Moon's
-    ∷ sameLines (linesBy table (minusOne ∷ minusOne ∷ []) (minusOne ∷ [])) (lineThen 83 23 ∷ lineThen 83 23 ∷ lineThen 77 3 ∷ [])
+    ∷ sameLines (linesBy table utc8 (minusOne ∷ minusOne ∷ []) (minusOne ∷ [])) (lineThen 83 23 ∷ lineThen 83 23 ∷ lineThen 77 3 ∷ [])
     ∷ []
 
 pub examples-hold : T (all examples)

@@ -1,4 +1,5 @@
-// The listing: from the input's bytes to its lines, in parts that fit the lent room.
+// The listing: from the input's bytes to its lines in a zone, in parts that fit the lent room.
+use conversion::inner::is_zone;
 ghost use mathlib.Core.Path.{_≡_};
 ghost use lib.ListN.{length};
 ghost use Rattle.listed.specs.Listing.{listing};
@@ -21,10 +22,13 @@ fn zeros() -> [i64; 8192]
 }
 
 // The whole lines of the listing, from line `from` on, that fit the room. A listing that is refused is the one line that says so.
-pub fn list_part(input: &[u8], from: usize, room: &mut [u8]) -> Part
-    ensures { λ r. ⌜ r ≡ partAnswer (listing (now (input .entry))) from (length (now (room .entry))) ⌝ }
-    ensures { λ r. ⌜ now (room .exit) ≡ partHeld (listing (now (input .entry))) from (now (room .entry)) ⌝ }
+pub fn list_part(input: &[u8], zone: i64, from: usize, room: &mut [u8]) -> Part
+    ensures { λ r. ⌜ r ≡ partAnswer (listing (now (input .entry)) zone) from (length (now (room .entry))) ⌝ }
+    ensures { λ r. ⌜ now (room .exit) ≡ partHeld (listing (now (input .entry)) zone) from (now (room .entry)) ⌝ }
 {
+    if !is_zone(zone) {
+        return parts::put_refusal(15, from, room);
+    }
     if 65536 < input.len() {
         return parts::put_refusal(13, from, room);
     }
@@ -34,5 +38,5 @@ pub fn list_part(input: &[u8], from: usize, room: &mut [u8]) -> Part
     let n = input.len() / 8;
     let mut words = zeros();
     words::inner::read_words(input, n, &mut words);
-    parts::put_words(&words[..n], from, room)
+    parts::put_words(&words[..n], zone, from, room)
 }

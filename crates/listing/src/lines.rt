@@ -7,6 +7,7 @@ ghost use mathlib.Core.Path.{_≡_};
 ghost use Prim.Native.Nat.{_<_};
 ghost use lib.IntN.{pos};
 ghost use lib.ListN.{length, getD};
+ghost use Rattle.whole.specs.Ranges.{Within};
 ghost use Rattle.series.specs.Bodies.{numbers};
 ghost use Rattle.series.specs.Series.{series};
 ghost use Rattle.marks.specs.Answers.{noMark};
@@ -61,17 +62,19 @@ pub fn line_of(
     leap: &[i64],
     start: Second,
     coefs: &[i64],
+    zone: i64,
     lowest: i64,
     k: usize,
 ) -> Line
     requires { ⌜ Ready (now leap) (series body (start .0) (now coefs)) ⌝ }
     requires { ⌜ lowest ≡ firstReached (series body (start .0) (now coefs)) ⌝ }
     requires { ⌜ k < length (listedMarks (series body (start .0) (now coefs))) ⌝ }
-    ensures { λ r. ⌜ lineText r ≡ lineOf body (now (leap .entry)) (getD (listedMarks (series body (start .0) (now (coefs .entry)))) k noMark) ⌝ }
+    requires { ⌜ Within 1000 zone ⌝ }
+    ensures { λ r. ⌜ lineText r ≡ lineOf body (now (leap .entry)) zone (getD (listedMarks (series body (start .0) (now (coefs .entry)))) k noMark) ⌝ }
 {
     let mark = locator::inner::nth_after(body, start, coefs, lowest, k);
     let second = mark.second;
-    let shown = conversion::inner::shown_in(leap, second, 480);
+    let shown = conversion::inner::shown_in(leap, second, zone);
     let turn = whole::inner::floor_mod(mark.index, circle_of(body));
     Line {
         letter: letter_of(body),

@@ -14,6 +14,7 @@ ghost use Rattle.inputs.specs.Known.{Known};
 ghost use Rattle.listed.specs.Listing.{linesOf, listed, listedWords, printed};
 ghost use Prim.Native.Nat.{_+_, _<_, _≤_};
 ghost use lib.ListN.{length, getD};
+ghost use Rattle.whole.specs.Ranges.{Within};
 ghost use Rattle.series.specs.declared.Body.the-variants.{Sun, Moon};
 ghost use Rattle.series.specs.Series.{series};
 ghost use Rattle.marks.specs.Listed.{firstReached, listedMarks};
@@ -28,6 +29,7 @@ fn line_at(
     sun: &[i64],
     moonstart: Second,
     moon: &[i64],
+    zone: i64,
     sunlowest: i64,
     moonlowest: i64,
     suns: usize,
@@ -37,13 +39,22 @@ fn line_at(
     requires { ⌜ sunlowest ≡ firstReached (series Sun (sunstart .0) (now sun)) ⌝ }
     requires { ⌜ moonlowest ≡ firstReached (series Moon (moonstart .0) (now moon)) ⌝ }
     requires { ⌜ suns ≡ length (listedMarks (series Sun (sunstart .0) (now sun))) ⌝ }
-    requires { ⌜ i < length (linesOf (inputs (now leap) (sunstart .0) (now sun) (moonstart .0) (now moon))) ⌝ }
-    ensures { λ r. ⌜ lineText r ≡ getD (linesOf (inputs (now (leap .entry)) (sunstart .0) (now (sun .entry)) (moonstart .0) (now (moon .entry)))) i [] ⌝ }
+    requires { ⌜ i < length (linesOf (inputs (now leap) (sunstart .0) (now sun) (moonstart .0) (now moon)) zone) ⌝ }
+    requires { ⌜ Within 1000 zone ⌝ }
+    ensures { λ r. ⌜ lineText r ≡ getD (linesOf (inputs (now (leap .entry)) (sunstart .0) (now (sun .entry)) (moonstart .0) (now (moon .entry))) zone) i [] ⌝ }
 {
     if i < suns {
-        return lines::line_of(Body::Sun, leap, sunstart, sun, sunlowest, i);
+        return lines::line_of(Body::Sun, leap, sunstart, sun, zone, sunlowest, i);
     }
-    lines::line_of(Body::Moon, leap, moonstart, moon, moonlowest, i - suns)
+    lines::line_of(
+        Body::Moon,
+        leap,
+        moonstart,
+        moon,
+        zone,
+        moonlowest,
+        i - suns,
+    )
 }
 
 // The lines from `from` on that fit the room.
@@ -53,12 +64,14 @@ pub fn put_lines(
     sun: &[i64],
     moonstart: Second,
     moon: &[i64],
+    zone: i64,
     from: usize,
     room: &mut [u8],
 ) -> Part
     requires { ⌜ Known (inputs (now leap) (sunstart .0) (now sun) (moonstart .0) (now moon)) ⌝ }
-    ensures { λ r. ⌜ r ≡ partAnswer (linesOf (inputs (now (leap .entry)) (sunstart .0) (now (sun .entry)) (moonstart .0) (now (moon .entry)))) from (length (now (room .entry))) ⌝ }
-    ensures { λ r. ⌜ now (room .exit) ≡ partHeld (linesOf (inputs (now (leap .entry)) (sunstart .0) (now (sun .entry)) (moonstart .0) (now (moon .entry)))) from (now (room .entry)) ⌝ }
+    requires { ⌜ Within 1000 zone ⌝ }
+    ensures { λ r. ⌜ r ≡ partAnswer (linesOf (inputs (now (leap .entry)) (sunstart .0) (now (sun .entry)) (moonstart .0) (now (moon .entry))) zone) from (length (now (room .entry))) ⌝ }
+    ensures { λ r. ⌜ now (room .exit) ≡ partHeld (linesOf (inputs (now (leap .entry)) (sunstart .0) (now (sun .entry)) (moonstart .0) (now (moon .entry))) zone) from (now (room .entry)) ⌝ }
 {
     let suns = finder::inner::count(Body::Sun, sunstart, sun);
     let moons = finder::inner::count(Body::Moon, moonstart, moon);
@@ -74,6 +87,7 @@ pub fn put_lines(
             sun,
             moonstart,
             moon,
+            zone,
             sunlowest,
             moonlowest,
             suns,
@@ -134,25 +148,35 @@ pub fn put_input(
     sun: &[i64],
     moonstart: Second,
     moon: &[i64],
+    zone: i64,
     from: usize,
     room: &mut [u8],
 ) -> Part
-    ensures { λ r. ⌜ r ≡ partAnswer (printed (listed (inputs (now (leap .entry)) (sunstart .0) (now (sun .entry)) (moonstart .0) (now (moon .entry))))) from (length (now (room .entry))) ⌝ }
-    ensures { λ r. ⌜ now (room .exit) ≡ partHeld (printed (listed (inputs (now (leap .entry)) (sunstart .0) (now (sun .entry)) (moonstart .0) (now (moon .entry))))) from (now (room .entry)) ⌝ }
+    requires { ⌜ Within 1000 zone ⌝ }
+    ensures { λ r. ⌜ r ≡ partAnswer (printed (listed (inputs (now (leap .entry)) (sunstart .0) (now (sun .entry)) (moonstart .0) (now (moon .entry))) zone)) from (length (now (room .entry))) ⌝ }
+    ensures { λ r. ⌜ now (room .exit) ≡ partHeld (printed (listed (inputs (now (leap .entry)) (sunstart .0) (now (sun .entry)) (moonstart .0) (now (moon .entry))) zone)) from (now (room .entry)) ⌝ }
 {
     let check = inputs::judge(leap, sunstart, sun, moonstart, moon);
     if let Check::Refused(r) = check {
         return put_refusal(r.number, from, room);
     }
-    put_lines(leap, sunstart, sun, moonstart, moon, from, room)
+    put_lines(leap, sunstart, sun, moonstart, moon, zone, from, room)
 }
 
 // A part of what is printed for words whose sections stand at these places.
-fn put_sections(words: &[i64], sun: usize, moon: usize, from: usize, room: &mut [u8]) -> Part
+fn put_sections(
+    words: &[i64],
+    sun: usize,
+    moon: usize,
+    zone: i64,
+    from: usize,
+    room: &mut [u8],
+) -> Part
     requires { ⌜ (1 ≤ sun) × ((sun + 2 ≤ moon) × (moon + 2 ≤ length (now words))) ⌝ }
     requires { ⌜ length (now words) ≤ 8192 ⌝ }
-    ensures { λ r. ⌜ r ≡ partAnswer (printed (listed (inputsAt (now (words .entry)) (record { sun = sun; moon = moon })))) from (length (now (room .entry))) ⌝ }
-    ensures { λ r. ⌜ now (room .exit) ≡ partHeld (printed (listed (inputsAt (now (words .entry)) (record { sun = sun; moon = moon })))) from (now (room .entry)) ⌝ }
+    requires { ⌜ Within 1000 zone ⌝ }
+    ensures { λ r. ⌜ r ≡ partAnswer (printed (listed (inputsAt (now (words .entry)) (record { sun = sun; moon = moon })) zone)) from (length (now (room .entry))) ⌝ }
+    ensures { λ r. ⌜ now (room .exit) ≡ partHeld (printed (listed (inputsAt (now (words .entry)) (record { sun = sun; moon = moon })) zone)) from (now (room .entry)) ⌝ }
 {
     let first = sun + 2;
     let behind = moon + 2;
@@ -164,19 +188,21 @@ fn put_sections(words: &[i64], sun: usize, moon: usize, from: usize, room: &mut 
         &words[first..moon],
         moonstart,
         &words[behind..],
+        zone,
         from,
         room,
     )
 }
 
 // A part of what is printed for the input's words.
-pub fn put_words(words: &[i64], from: usize, room: &mut [u8]) -> Part
+pub fn put_words(words: &[i64], zone: i64, from: usize, room: &mut [u8]) -> Part
     requires { ⌜ length (now words) ≤ 8192 ⌝ }
-    ensures { λ r. ⌜ r ≡ partAnswer (printed (listedWords (now (words .entry)))) from (length (now (room .entry))) ⌝ }
-    ensures { λ r. ⌜ now (room .exit) ≡ partHeld (printed (listedWords (now (words .entry)))) from (now (room .entry)) ⌝ }
+    requires { ⌜ Within 1000 zone ⌝ }
+    ensures { λ r. ⌜ r ≡ partAnswer (printed (listedWords (now (words .entry)) zone)) from (length (now (room .entry))) ⌝ }
+    ensures { λ r. ⌜ now (room .exit) ≡ partHeld (printed (listedWords (now (words .entry)) zone)) from (now (room .entry)) ⌝ }
 {
     match layout::inner::find_places(words) {
         PlacesAnswer::Refused(r) => put_refusal(r.number, from, room),
-        PlacesAnswer::Found(p) => put_sections(words, p.sun, p.moon, from, room),
+        PlacesAnswer::Found(p) => put_sections(words, p.sun, p.moon, zone, from, room),
     }
 }

@@ -71,8 +71,8 @@ pub fn days_in(
     sun: &[i64],
     moonstart: Second,
     moon: &[i64],
-    year: i64,
     zone: i64,
+    year: i64,
 ) -> DaysAnswer
     requires { ⌜ Known (inputs (now leap) (sunstart .0) (now sun) (moonstart .0) (now moon)) ⌝ }
     requires { ⌜ Within 1000 zone ⌝ }

@@ -1,20 +1,24 @@
-// The rebuild program's own code over each three files that are named: many cases in one run, each under its names, with the new file's bytes behind the lines. No
-// contract can hold what a program prints, so these hold it.
-use rebuild_run::inner::print_name;
+// The rebuild program's own code over each zone and three files that are named: many cases in one run, each under its names, with the new file's bytes behind the
+// lines. No contract can hold what a program prints, so these hold it.
+use build_run::inner::print_argument;
+use build_run::inner::zone_argument;
 ghost use Prim.Native.Nat.{_≤_};
 
-// Rebuilds by the three files whose names begin at argument i.
+// Rebuilds in the zone that argument i says, by the three files that the next ones name.
 fn rebuild_case(i: usize)
     requires { ⌜ i ≤ 1000 ⌝ }
 {
     io::write_all(libc::STDOUT_FILENO, b"# ");
-    print_name(i);
+    print_argument(i);
     io::write_all(libc::STDOUT_FILENO, b" ");
-    print_name(i + 1);
+    print_argument(i + 1);
     io::write_all(libc::STDOUT_FILENO, b" ");
-    print_name(i + 2);
+    print_argument(i + 2);
+    io::write_all(libc::STDOUT_FILENO, b" ");
+    print_argument(i + 3);
     io::write_all(libc::STDOUT_FILENO, b"\n");
-    rebuild_run::rebuild_named(i, i + 1, i + 2, libc::STDOUT_FILENO);
+    let zone = zone_argument(i);
+    rebuild_run::rebuild_named(i + 1, i + 2, i + 3, zone, libc::STDOUT_FILENO);
 }
 
 fn main() {
@@ -25,6 +29,6 @@ fn main() {
             return;
         }
         rebuild_case(i);
-        i += 3;
+        i += 4;
     }
 }

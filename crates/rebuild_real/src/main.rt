@@ -4,11 +4,11 @@
 use alike::inner::same_bytes;
 use almanac::WriteAnswer;
 use build_run::inner::file_room;
+use build_run::inner::open_argument;
+use build_run::inner::print_argument;
 use build_run::inner::print_refusal;
 use build_run::inner::take_all;
 use build_run::inner::word_room;
-use rebuild_run::inner::open_argument;
-use rebuild_run::inner::print_name;
 use rebuild_run::inner::print_rebuilt;
 use rebuild_run::inner::year_room;
 use refusals::Check;
@@ -41,9 +41,18 @@ fn copy_words(from: &[i64], to: &mut [i64]) {
 fn print_fresh(old: &[u8], oldwords: &[i64], oldbytes: usize, words: &[i64], bytes: usize) {
     let mut file = file_room();
     let mut years = year_room();
-    rebuilding::rebuild_taken(old, oldwords, oldbytes, words, bytes, &mut file, &mut years);
+    rebuilding::rebuild_taken(
+        old,
+        oldwords,
+        oldbytes,
+        words,
+        bytes,
+        480,
+        &mut file,
+        &mut years,
+    );
     let mut fresh = file_room();
-    building::build_taken(words, bytes, &mut fresh);
+    building::build_taken(words, bytes, 480, &mut fresh);
     if !same_bytes(&file, &fresh) {
         io::write_all(libc::STDOUT_FILENO, b"not ");
     }
@@ -52,7 +61,15 @@ fn print_fresh(old: &[u8], oldwords: &[i64], oldbytes: usize, words: &[i64], byt
 
 fn print_case(old: &[u8], oldwords: &[i64], oldbytes: usize, words: &[i64], bytes: usize) {
     print_fresh(old, oldwords, oldbytes, words, bytes);
-    print_rebuilt(old, oldwords, oldbytes, words, bytes, libc::STDOUT_FILENO);
+    print_rebuilt(
+        old,
+        oldwords,
+        oldbytes,
+        words,
+        bytes,
+        480,
+        libc::STDOUT_FILENO,
+    );
 }
 
 // The coefficients of a corrected segment.
@@ -110,7 +127,7 @@ fn rebuild_case(i: usize, old: &[u8], oldwords: &[i64])
     requires { ⌜ length (now oldwords) ≡ 252135 ⌝ }
 {
     io::write_all(libc::STDOUT_FILENO, b"# ");
-    print_name(i);
+    print_argument(i);
     io::write_all(libc::STDOUT_FILENO, b"\n");
     let mut bytes = io::buffer();
     let fd = open_argument(i);
@@ -153,6 +170,7 @@ fn rebuild_damaged(old: &[u8], oldwords: &[i64]) {
         348376,
         oldwords,
         348376,
+        480,
         libc::STDOUT_FILENO,
     );
 }
@@ -174,7 +192,7 @@ fn rebuild_built(oldwords: &[i64], bytes: usize)
     requires { ⌜ length (now oldwords) ≡ 252135 ⌝ }
 {
     let mut file = file_room();
-    let built = building::build_taken(oldwords, bytes, &mut file);
+    let built = building::build_taken(oldwords, bytes, 480, &mut file);
     match built {
         WriteAnswer::Refused(r) => {
             print_refusal(r);
@@ -189,7 +207,7 @@ fn rebuild_built(oldwords: &[i64], bytes: usize)
 fn main() {
     io::write_all(libc::STDOUT_FILENO, b"# sample\n");
     let fd = open_argument(1);
-    build_run::build_from(fd);
+    build_run::build_from(fd, 480);
     libc::close(fd);
     let mut words = word_room();
     let again = open_argument(1);

@@ -1,4 +1,4 @@
-// What the programs that rebuild have in common: rooms, files by name, and how what was rebuilt is printed.
+// What the programs that rebuild have in common: rooms, and how what was rebuilt is printed.
 use almanac::WriteAnswer;
 use build_run::inner::file_room;
 use build_run::inner::print_refusal;
@@ -21,20 +21,6 @@ fn line_room() -> [u8; 1280]
     [0; 1280]
 }
 
-// Opens the file that an argument names, and answers a descriptor, or -1.
-pub fn open_argument(i: usize) -> i32 {
-    let mut name = io::buffer();
-    let n = os::arg(i, &mut name);
-    os::open_read(&name[..n])
-}
-
-// Prints the name that an argument is.
-pub fn print_name(i: usize) {
-    let mut name = io::buffer();
-    let n = os::arg(i, &mut name);
-    io::write_all(libc::STDOUT_FILENO, &name[..n]);
-}
-
 // The lines of a file's suis, of which these years were kept.
 pub fn print_lines(file: &[u8], years: &[i64]) {
     let mut lines = line_room();
@@ -50,7 +36,7 @@ pub fn print_lines(file: &[u8], years: &[i64]) {
 }
 
 // A refusal, and for 2 to 5 whose series of the new input it is.
-pub fn print_refused(r: Refusal, words: &[i64], bytes: usize) {
+pub fn print_refused(r: Refusal, words: &[i64], bytes: usize, zone: i64) {
     print_refusal(r);
     if r.number < 2 {
         return;
@@ -58,7 +44,7 @@ pub fn print_refused(r: Refusal, words: &[i64], bytes: usize) {
     if 5 < r.number {
         return;
     }
-    print_series(words, bytes);
+    print_series(words, bytes, zone);
 }
 
 // The new file: its lines, and its bytes.
@@ -74,6 +60,7 @@ pub fn print_rebuilt(
     oldbytes: usize,
     words: &[i64],
     bytes: usize,
+    zone: i64,
     out: i32,
 ) {
     let mut file = file_room();
@@ -84,12 +71,13 @@ pub fn print_rebuilt(
         oldbytes,
         words,
         bytes,
+        zone,
         &mut file,
         &mut years,
     );
     match answer {
         RebuildAnswer::Refused(r) => {
-            print_refused(r, words, bytes);
+            print_refused(r, words, bytes, zone);
         }
         RebuildAnswer::Rebuilt(n) => {
             print_new(&file[..n.bytes], &years[..n.years], out);

@@ -8,7 +8,6 @@ use times::Second;
 ghost use mathlib.Core.Path.{_≡_};
 ghost use lib.ListN.{length};
 ghost use Rattle.refusals.specs.Lent.{writtenInto};
-ghost use Rattle.clock.specs.Clock.{utc8};
 ghost use Rattle.layout.specs.Layout.{paperPlaces, inputsAt};
 ghost use Rattle.rebuilt.specs.Rebuild.{rebuilt, paperRebuilt, counted, new-bytes, kept-years};
 ghost use Rattle.rebuilt_from.specs.theory.Cases.{placesTaken, Sections};
@@ -34,14 +33,15 @@ pub fn rebuild_sections(
     oldplaces: Places,
     words: &[i64],
     places: Places,
+    zone: i64,
     file: &mut [u8],
     years: &mut [i64],
 ) -> RebuildAnswer
     requires { ⌜ Sections (now oldwords) oldplaces ⌝ }
     requires { ⌜ Sections (now words) places ⌝ }
-    ensures { λ r. ⌜ paperRebuilt r ≡ counted (rebuilt (inputsAt (now (oldwords .entry)) oldplaces) (inputsAt (now (words .entry)) places) utc8 (now (old .entry)) (length (now (file .entry))) (length (now (years .entry)))) ⌝ }
-    ensures { λ r. ⌜ now (file .exit) ≡ writtenInto (rebuilt (inputsAt (now (oldwords .entry)) oldplaces) (inputsAt (now (words .entry)) places) utc8 (now (old .entry)) (length (now (file .entry))) (length (now (years .entry)))) new-bytes (now (file .entry)) ⌝ }
-    ensures { λ r. ⌜ now (years .exit) ≡ writtenInto (rebuilt (inputsAt (now (oldwords .entry)) oldplaces) (inputsAt (now (words .entry)) places) utc8 (now (old .entry)) (length (now (file .entry))) (length (now (years .entry)))) kept-years (now (years .entry)) ⌝ }
+    ensures { λ r. ⌜ paperRebuilt r ≡ counted (rebuilt (inputsAt (now (oldwords .entry)) oldplaces) (inputsAt (now (words .entry)) places) zone (now (old .entry)) (length (now (file .entry))) (length (now (years .entry)))) ⌝ }
+    ensures { λ r. ⌜ now (file .exit) ≡ writtenInto (rebuilt (inputsAt (now (oldwords .entry)) oldplaces) (inputsAt (now (words .entry)) places) zone (now (old .entry)) (length (now (file .entry))) (length (now (years .entry)))) new-bytes (now (file .entry)) ⌝ }
+    ensures { λ r. ⌜ now (years .exit) ≡ writtenInto (rebuilt (inputsAt (now (oldwords .entry)) oldplaces) (inputsAt (now (words .entry)) places) zone (now (old .entry)) (length (now (file .entry))) (length (now (years .entry)))) kept-years (now (years .entry)) ⌝ }
 {
     let oldsun = oldplaces.sun;
     let oldmoon = oldplaces.moon;
@@ -67,6 +67,7 @@ pub fn rebuild_sections(
         &words[first..moon],
         moonstart,
         &words[behind..],
+        zone,
         file,
         years,
     )

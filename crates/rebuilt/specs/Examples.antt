@@ -4,7 +4,7 @@ use mathlib.Core.Bool.{Bool, false, cond, not, _&&_}
 use mathlib.Core.List.{List, [], _∷_, _++_}
 use Prim.Native.Nat.{ℕ, _+_}
 use lib.Dec.{T, eqb}
-use lib.IntN.{ℤ, pos, _+ℤ_}
+use lib.IntN.{ℤ, pos, negsuc, _+ℤ_}
 use lib.ListN.{length, set, take}
 use Rattle.whole.specs.Below.{every}
 use Rattle.whole.specs.Counted.{countOf}
@@ -17,6 +17,9 @@ use Rattle.refusals.specs.Evaluated.{isAccepted, isRefused, isRefusedAt}
 use Rattle.refusals.specs.Lent.{writtenInto}
 use Rattle.dates.specs.Answers.{hasDate}
 use Rattle.clock.specs.Leap.{firstEntry, nextEntry, goodEntry, wholePairs, leapLawful}
+use Rattle.clock.specs.Clock.{isZone}
+use Rattle.clock.specs.Answers.{zoneJudged}
+use Rattle.inputs.specs.Inputs.{Inputs, inputs}
 use Rattle.months.specs.declared.Sui.{Sui}
 use Rattle.months.specs.declared.SuiDays.{SuiDays}
 use Rattle.months.specs.Handles.{numberAt, leapMark, handle, handleAt, monthOf}
@@ -26,7 +29,7 @@ use Rattle.almanac.specs.Fields.{times, numbersIn, bytesFor}
 use Rattle.almanac.specs.Layout.{endAt, bytesOf, countsOf, contentAt, contentOf, fileOf}
 use Rattle.built.specs.Build.{monthsIn, wordsOf}
 use Rattle.rebuilt.specs.declared.Rebuilt.{Rebuilt}
-use Rattle.rebuilt.specs.Rebuild.{Years, givenBy, daysWords, sameDays, isKept, keptBy, NewFile, newFileBy, rebuiltBy, mostBytes, counted, new-bytes, kept-years}
+use Rattle.rebuilt.specs.Rebuild.{Years, givenBy, daysWords, sameDays, isKept, keptBy, NewFile, newFileBy, rebuiltBy, rebuilt, mostBytes, counted, new-bytes, kept-years}
 use Rattle.rebuilt.specs.Theorems.{taken}
 
 -- ---- how the examples are written
@@ -107,11 +110,15 @@ isCounted (refused number segment) bytes years = false
 abbrev file : List ℕ
 file = 7 ∷ 8 ∷ 9 ∷ []
 
+-- inputs of no words
+abbrev empty : Inputs
+empty = inputs [] (pos 0) [] (pos 0) []
+
 abbrev given : Verdict Years
 given = answered (record { first = pos 2001; count = 3 })
 
 unfoldable pub examples : List Bool
-unfolding every countOf floorMod firstFrom firstBelow hasDate firstEntry nextEntry goodEntry wholePairs leapLawful numberAt leapMark handle handleAt monthOf monthLength isWithin zhongqiIn zhongqiOf without firstWithout leapMonth monthAt numbered goodLength badMonth firstBadMonth lengthsJudged suiOf monthsBefore followsYear goodSui leapsBefore goodHandle goodStart goodDays goodMonth goodMonths goodSuiMonths wholeSuis lawful times numbersIn bytesFor bytesOf countsOf contentAt contentOf fileOf wordsOf givenBy daysWords sameDays keptBy newFileBy rebuiltBy taken
+unfolding every countOf floorMod firstFrom firstBelow hasDate firstEntry nextEntry goodEntry wholePairs leapLawful numberAt leapMark handle handleAt monthOf monthLength isWithin zhongqiIn zhongqiOf without firstWithout leapMonth monthAt numbered goodLength badMonth firstBadMonth lengthsJudged suiOf monthsBefore followsYear goodSui leapsBefore goodHandle goodStart goodDays goodMonth goodMonths goodSuiMonths wholeSuis lawful times numbersIn bytesFor bytesOf countsOf contentAt contentOf fileOf wordsOf givenBy daysWords sameDays keptBy newFileBy rebuiltBy zoneJudged isZone taken
 examples =
     -- the old file: what the build gives for the years that stand in it
     isYears (givenBy (gives (one (pos 29)) (pos 2001) (pos 1)) (one (pos 29))) (pos 2001) 1
@@ -191,6 +198,11 @@ examples =
     -- the months' words: of a sui that is kept the old ones, of the others those that are made, in turn
     ∷ sameWords (taken (eqb 1) (λ j. pos j ∷ []) (λ j. pos (100 + j) ∷ pos (200 + j) ∷ []) 3) (pos 100 ∷ pos 200 ∷ pos 1 ∷ pos 102 ∷ pos 202 ∷ [])
     ∷ sameWords (taken (eqb 1) (λ j. pos j ∷ []) (λ j. pos (100 + j) ∷ pos (200 + j) ∷ []) 1) (pos 100 ∷ pos 200 ∷ [])
+    -- 15 before 13, on both sides of the zones
+    ∷ isRefused (rebuilt empty empty (pos 841) [] 0 0) 15
+    ∷ isRefused (rebuilt empty empty (pos 840) [] 0 0) 13
+    ∷ isRefused (rebuilt empty empty (negsuc 720) [] 0 0) 15
+    ∷ isRefused (rebuilt empty empty (negsuc 719) [] 0 0) 13
     -- how many bytes and years are answered; what the lent places hold: those at the front, and behind them what was there; a refusal leaves both
     ∷ isCounted (counted (newFileBy (answered file) (pos 2001 ∷ pos 2003 ∷ []) 2)) 3 2
     ∷ isRefused (counted (newFileBy (answered file) (pos 2001 ∷ pos 2003 ∷ []) 1)) 12

@@ -1,5 +1,5 @@
--- The rebuild (document 02, order 1): the file of the old file's years from new inputs, and the years of the suis whose days the new inputs leave as they were.
--- Assumes nothing: these are definitions.
+-- The rebuild (document 02, order 1; its zone, order 5): the file of the old file's years from new inputs, and the years of the suis whose days the new inputs leave as
+-- they were. Assumes nothing: these are definitions.
 use mathlib.Core.Bool.{Bool, false, cond, not}
 use mathlib.Core.List.{List, [], _∷_, _++_}
 use Prim.Native.Nat.{ℕ, zero, suc}
@@ -8,6 +8,7 @@ use lib.IntN.{ℤ, pos, _+ℤ_}
 use lib.ListN.{length}
 use Rattle.whole.specs.Evaluated.{sameNumbers, sameWords}
 use Rattle.refusals.specs.Verdict.{Verdict, answered, refused, refuseWhen, refusal, _before_, _then_}
+use Rattle.clock.specs.Answers.{zoneJudged}
 use Rattle.inputs.specs.Inputs.{Inputs}
 use Rattle.months.specs.declared.SuiDays.{SuiDays}
 use Rattle.sui.specs.Sui.{suiDays}
@@ -54,7 +55,7 @@ unfoldable pub keptBy : (ℤ → Bool) → ℤ → ℕ → List ℤ
 keptBy kept first zero = []
 keptBy kept first (suc n) = keptBy kept first n ++ cond (kept (first +ℤ pos n)) ((first +ℤ pos n) ∷ []) []
 
--- ---- the whole: 13; then the fresh build's refusals in its order, 12 for its bytes the last of them; then 12 for the years
+-- ---- behind the zone: 13; then the fresh build's refusals in its order, 12 for its bytes the last of them; then 12 for the years
 pub record NewFile : Type 0 where
   pub bytes : List ℕ
   pub years : List ℤ
@@ -77,8 +78,9 @@ module _ (old new : Inputs) (zone : ℤ) where
   abbrev pub kept : ℤ → Bool
   kept year = isKept (suiDays old zone year) (suiDays new zone year)
 
+  -- the whole: 15 before 13
   abbrev pub rebuilt : List ℕ → ℕ → ℕ → Verdict NewFile
-  rebuilt file room places = rebuiltBy (given old zone file) (λ first count. bytesBuilt new zone first count room) kept places
+  rebuilt file room places = zoneJudged zone before rebuiltBy (given old zone file) (λ first count. bytesBuilt new zone first count room) kept places
 
   -- behind the judgement of the old file and of the inputs
   abbrev pub newFile : ℤ → ℕ → ℕ → ℕ → Verdict NewFile

@@ -12,9 +12,10 @@ use lib.IntN.{ℤ, pos, natAbs, _+ℤ_}
 use lib.ListN.{length, getD, take}
 use lib.Seq.{take-suc, take-all}
 use lib.Signed.{_<ℤ_}
-use Rattle.whole.specs.Ranges.{Within}
-use Rattle.refusals.specs.Verdict.{Verdict, answered, refused, OneToOne, then-answered, test-answered, answers-apart, answer-or-refusal, refusals-apart, one-result, one-content, _then_}
+use Rattle.refusals.specs.Verdict.{Verdict, answered, refused, OneToOne, then-answered, test-answered, before-answered, answers-apart, answer-or-refusal, refusals-apart, one-result, one-content, _then_}
 use Rattle.refusals.specs.Lent.{writtenInto}
+use Rattle.clock.specs.Clock.{isZone}
+use Rattle.clock.specs.Answers.{zoneJudged}
 use Rattle.inputs.specs.Inputs.{Inputs}
 use Rattle.months.specs.declared.SuiDays.{SuiDays}
 use Rattle.months.specs.declared.Sui.{Sui}
@@ -33,7 +34,7 @@ use Rattle.built.specs.theory.Years.{suis-are}
 use Rattle.rebuilt.specs.declared.RebuildAnswer.{RebuildAnswer}
 use Rattle.rebuilt.specs.declared.RebuildAnswer.the-variants as rebuild-answer
 use Rattle.rebuilt.specs.Rebuild.{Years, NewFile, newFileBy, rebuiltBy, mostBytes, given, keptBy, kept, rebuilt, paperRebuilt, counted, new-bytes, kept-years}
-use Rattle.rebuilt.specs.theory.Given.{Given, given-tells, given-when, not-given, built-is-given, count-built, room-enough}
+use Rattle.rebuilt.specs.theory.Given.{Given, given-tells, given-when, not-given, built-in-zone, built-is-given, count-built, room-enough}
 use Rattle.rebuilt.specs.theory.Kept.{fourteen-moons, same-days, both-found, kept-when}
 use Rattle.rebuilt.specs.theory.Listed.{StandsIn, KeptYear, years-of}
 use Rattle.rebuilt.specs.theory.Records.{words-in-turn, fewer-found, own-words, words-before}
@@ -48,7 +49,8 @@ pub record Fresh (old new : Inputs) (zone : ℤ) (file : List ℕ) (room : ℕ) 
 pub rebuilt-is-fresh : (old new : Inputs) (zone : ℤ) (file : List ℕ) (room places : ℕ) {n : NewFile} → rebuilt old new zone file room places ≡ answered n → Fresh old new zone file room n
 unfolding rebuiltBy newFileBy
 rebuilt-is-fresh old new zone file room places {n} e =
-    let given-first = then-answered (given old zone file) _ n e in
+    let in-zone = before-answered (zoneJudged zone) _ e in
+    let given-first = then-answered (given old zone file) _ n (in-zone .1) in
     let y = given-first .0 in
     let listed = keptBy (kept old new zone) (y .first) (y .count) in
     let built = then-answered (bytesBuilt new zone (y .first) (pos (y .count)) room) _ n (given-first .2) in
@@ -70,30 +72,34 @@ pub given-means : (old : Inputs) (zone : ℤ) (file : List ℕ) (y : Years) → 
 given-means old zone file y = (given-tells (oldBuild old zone) file, given-when (oldBuild old zone) file)
 
 -- .. and what a build gives is lawful, of the years that it was asked for: these are the years of a file exactly if the build of the old inputs for them gives it ..
-pub given-years-exactly : (old : Inputs) (zone : ℤ) → Within 1000 zone → (file : List ℕ) (y : Years) → given old zone file ≡ answered y ↔ (bytesBuilt old zone (y .first) (pos (y .count)) mostBytes ≡ answered file)
-given-years-exactly old zone small file y = (λ g. given-tells (oldBuild old zone) file g .is-built, λ b. built-is-given old zone (y .first) (pos (y .count)) b small)
+pub given-years-exactly : (old : Inputs) (zone : ℤ) (file : List ℕ) (y : Years) → given old zone file ≡ answered y ↔ (bytesBuilt old zone (y .first) (pos (y .count)) mostBytes ≡ answered file)
+given-years-exactly old zone file y = (λ g. given-tells (oldBuild old zone) file g .is-built, λ b. built-is-given old zone (y .first) (pos (y .count)) b)
 
 -- .. and a file is given exactly if that build gives it for some first year and count of suis
-pub given-exactly : (old : Inputs) (zone : ℤ) → Within 1000 zone → (file : List ℕ) → ((y : Years) × (given old zone file ≡ answered y)) ↔ ((first count : ℤ) × (bytesBuilt old zone first count mostBytes ≡ answered file))
-given-exactly old zone small file = (
+pub given-exactly : (old : Inputs) (zone : ℤ) (file : List ℕ) → ((y : Years) × (given old zone file ≡ answered y)) ↔ ((first count : ℤ) × (bytesBuilt old zone first count mostBytes ≡ answered file))
+given-exactly old zone file = (
   λ g. (g .0 .first, pos (g .0 .count), given-tells (oldBuild old zone) file (g .1) .is-built),
-  λ b. (record { first = b .0; count = natAbs (b .1) }, built-is-given old zone (b .0) (b .1) (b .2) small),
+  λ b. (record { first = b .0; count = natAbs (b .1) }, built-is-given old zone (b .0) (b .1) (b .2)),
 )
 
 -- (the bytes that any file has are room enough: what is built in other room is built in that)
-pub most-bytes-are-enough : (i : Inputs) (zone first count : ℤ) (room : ℕ) {bytes : List ℕ} → bytesBuilt i zone first count room ≡ answered bytes → Within 1000 zone → bytesBuilt i zone first count mostBytes ≡ answered bytes
-most-bytes-are-enough i zone first count room e small = room-enough i zone first count room e small
+pub most-bytes-are-enough : (i : Inputs) (zone first count : ℤ) (room : ℕ) {bytes : List ℕ} → bytesBuilt i zone first count room ≡ answered bytes → bytesBuilt i zone first count mostBytes ≡ answered bytes
+most-bytes-are-enough i zone first count room e = room-enough i zone first count room e
 
--- any other file is refused by 13, whatever the new inputs are, and the room
-pub not-given-is-13 : (old : Inputs) (zone : ℤ) (file : List ℕ) → ((first count : ℤ) → bytesBuilt old zone first count mostBytes ≡ answered file → ⊥) → (new : Inputs) (room places : ℕ) → rebuilt old new zone file room places ≡ refused 13 0
-unfolding rebuiltBy
-not-given-is-13 old zone file none new room places = rw (not-given (oldBuild old zone) file (λ y e. none (y .first) (pos (y .count)) (given-tells (oldBuild old zone) file e .is-built)))
+-- any other file is refused by 13, whatever the new inputs are, and the room; only a zone out of range goes before it
+pub no-zone-is-15 : (old new : Inputs) (zone : ℤ) → isZone zone ≡ false → (file : List ℕ) (room places : ℕ) → rebuilt old new zone file room places ≡ refused 15 0
+unfolding zoneJudged
+no-zone-is-15 old new zone e file room places = rw e
+
+pub not-given-is-13 : (old : Inputs) (zone : ℤ) → isZone zone ≡ true → (file : List ℕ) → ((first count : ℤ) → bytesBuilt old zone first count mostBytes ≡ answered file → ⊥) → (new : Inputs) (room places : ℕ) → rebuilt old new zone file room places ≡ refused 13 0
+unfolding zoneJudged rebuiltBy
+not-given-is-13 old zone z file none new room places = rw (z, not-given (oldBuild old zone) file (λ y e. none (y .first) (pos (y .count)) (given-tells (oldBuild old zone) file e .is-built)))
 
 -- ---- "Refusals: those of a fresh build in its order, and 13 first": behind 13 the fresh build for the old file's years, then 12 for the years that are kept
-pub then-as-fresh : (old new : Inputs) (zone first count : ℤ) → Within 1000 zone → {file : List ℕ} → bytesBuilt old zone first count mostBytes ≡ answered file → (room places : ℕ) → rebuilt old new zone file room places ≡ newFileBy (bytesBuilt new zone first count room) (keptBy (kept old new zone) first (natAbs count)) places
+pub then-as-fresh : (old new : Inputs) (zone first count : ℤ) {file : List ℕ} → bytesBuilt old zone first count mostBytes ≡ answered file → (room places : ℕ) → rebuilt old new zone file room places ≡ newFileBy (bytesBuilt new zone first count room) (keptBy (kept old new zone) first (natAbs count)) places
 unfolding rebuiltBy
-then-as-fresh old new zone first count small {file} e room places =
-    rw (built-is-given old zone first count e small)
+then-as-fresh old new zone first count {file} e room places =
+    rw (built-in-zone old zone first count mostBytes e, built-is-given old zone first count e)
     (ap (λ (n : ℤ). newFileBy (bytesBuilt new zone first n room) (keptBy (kept old new zone) first (natAbs count)) places) (count-built old zone first count mostBytes e))
 
 -- ---- "whose new-moon days (from its month 11 to the next sui's) and 13 zhongqi days are unchanged"
@@ -181,12 +187,12 @@ pub record OldRecords (old : Inputs) (zone : ℤ) (file : List ℕ) (y : Years) 
   pub is-read : fileOf file ≡ answered content
   pub in-file : (j : ℕ) → j < y .count → numbersIn (times (suiAt suis j .count) monthFields) file (monthsAt (entryCount content) (suiCount content) + 4 + 9 * monthsBefore (content .suis) j) ≡ wordsAt suis j
 
-pub old-records-in-file : (old : Inputs) (zone : ℤ) → Within 1000 zone → (file : List ℕ) {y : Years} → given old zone file ≡ answered y → OldRecords old zone file y
+pub old-records-in-file : (old : Inputs) (zone : ℤ) (file : List ℕ) {y : Years} → given old zone file ≡ answered y → OldRecords old zone file y
 unfolding contentBy
-old-records-in-file old zone small file {y} e =
+old-records-in-file old zone file {y} e =
     let first = y .first in
     let n = y .count in
-    let b = built-is-read old zone first (pos n) mostBytes (given-tells (oldBuild old zone) file e .is-built) small in
+    let b = built-is-read old zone first (pos n) mostBytes (given-tells (oldBuild old zone) file e .is-built) in
     let c = b .content in
     let found = then-answered (suisFrom old zone first n) (λ suis. answered (contentFor (old .leap) first suis)) c (b .is-content) in
     let suis = found .0 in

@@ -10,6 +10,8 @@ use Rattle.whole.specs.Evaluated.{all, sameWords}
 use Rattle.refusals.specs.Verdict.{Verdict, answered, refused}
 use Rattle.refusals.specs.Evaluated.{isRefused}
 use Rattle.words.specs.Words.{words}
+use Rattle.clock.specs.Clock.{isZone, utc8}
+use Rattle.clock.specs.Answers.{zoneJudged}
 use Rattle.inputs.specs.Inputs.{Inputs}
 use Rattle.layout.specs.Layout.{sectionEnd, places}
 use Rattle.building.specs.Building.{lengthKept, allTaken}
@@ -32,7 +34,7 @@ abbrev least : List ℤ
 least = replicate 7 (pos 0)
 
 unfoldable pub examples : List Bool
-unfolding lengthKept allTaken inputsOfWords inputsOf inputsTaken words sectionEnd places rebuiltFrom rebuiltFromTaken rebuiltBy givenBy fileOf contentOf countsOf
+unfolding zoneJudged isZone lengthKept allTaken inputsOfWords inputsOf inputsTaken words sectionEnd places rebuiltFrom rebuiltFromTaken rebuiltBy givenBy fileOf contentOf countsOf
 examples =
     -- leap table, Sun and Moon, whatever first Y and count are
     isFound (inputsOfWords (asked (pos 2000) (pos 1))) (negsuc 364 ∷ pos 32 ∷ []) (pos 7) (replicate 14 (pos 3)) (pos 9) []
@@ -56,12 +58,18 @@ examples =
     ∷ isRefused (inputsTaken (replicate 6 (pos 0)) 56) 13
     ∷ isRefused (inputsTaken least 48) 13
     -- 13 for the old input, for the new one, and for an old file that is none
-    ∷ isRefused (rebuiltFromTaken [] least 57 least 56 200 200) 13
-    ∷ isRefused (rebuiltFromTaken [] least 56 least 57 200 200) 13
-    ∷ isRefused (rebuiltFromTaken [] least 56 least 56 200 200) 13
-    ∷ isRefused (rebuiltFrom [] (replicate 57 0) (replicate 56 0) 200 200) 13
-    ∷ isRefused (rebuiltFrom [] (replicate 56 0) (replicate 57 0) 200 200) 13
-    ∷ isRefused (rebuiltFrom [] (replicate 56 0) (replicate 56 0) 200 200) 13
+    ∷ isRefused (rebuiltFromTaken [] least 57 least 56 utc8 200 200) 13
+    ∷ isRefused (rebuiltFromTaken [] least 56 least 57 utc8 200 200) 13
+    ∷ isRefused (rebuiltFromTaken [] least 56 least 56 utc8 200 200) 13
+    ∷ isRefused (rebuiltFrom [] (replicate 57 0) (replicate 56 0) utc8 200 200) 13
+    ∷ isRefused (rebuiltFrom [] (replicate 56 0) (replicate 57 0) utc8 200 200) 13
+    ∷ isRefused (rebuiltFrom [] (replicate 56 0) (replicate 56 0) utc8 200 200) 13
+    -- 15 before 13 for either input and for the old file; zones from -720 to 840
+    ∷ isRefused (rebuiltFromTaken [] least 57 least 57 (pos 841) 200 200) 15
+    ∷ isRefused (rebuiltFromTaken [] least 56 least 56 (pos 841) 200 200) 15
+    ∷ isRefused (rebuiltFromTaken [] least 56 least 56 (pos 840) 200 200) 13
+    ∷ isRefused (rebuiltFrom [] (replicate 57 0) (replicate 56 0) (negsuc 720) 200 200) 15
+    ∷ isRefused (rebuiltFrom [] (replicate 56 0) (replicate 56 0) (negsuc 719) 200 200) 13
     ∷ []
 
 pub examples-hold : T (all examples)

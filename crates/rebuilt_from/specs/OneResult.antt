@@ -11,12 +11,12 @@ use Rattle.rebuilt.specs.Rebuild.{paperRebuilt, counted, new-bytes, kept-years}
 use Rattle.rebuilt.specs.Theorems.{rebuilt-apart}
 use Rattle.rebuilt_from.specs.RebuiltFrom.{rebuiltFromTaken}
 
-module _ (old : List ℕ) (oldws : List ℤ) (oldbytes : ℕ) (ws : List ℤ) (bytes : ℕ) (file : List ℕ) (years : List ℤ) where
-  pub rebuild-taken-one-result : (a b : RebuildAnswer) → paperRebuilt a ≡ counted (rebuiltFromTaken old oldws oldbytes ws bytes (length file) (length years)) → paperRebuilt b ≡ counted (rebuiltFromTaken old oldws oldbytes ws bytes (length file) (length years)) → a ≡ b
+module _ (old : List ℕ) (oldws : List ℤ) (oldbytes : ℕ) (ws : List ℤ) (bytes : ℕ) (zone : ℤ) (file : List ℕ) (years : List ℤ) where
+  pub rebuild-taken-one-result : (a b : RebuildAnswer) → paperRebuilt a ≡ counted (rebuiltFromTaken old oldws oldbytes ws bytes zone (length file) (length years)) → paperRebuilt b ≡ counted (rebuiltFromTaken old oldws oldbytes ws bytes zone (length file) (length years)) → a ≡ b
   rebuild-taken-one-result a b p q = one-result paperRebuilt rebuilt-apart a b p q
 
-  pub rebuild-taken-one-content : (a b : List ℕ) → a ≡ writtenInto (rebuiltFromTaken old oldws oldbytes ws bytes (length file) (length years)) new-bytes file → b ≡ writtenInto (rebuiltFromTaken old oldws oldbytes ws bytes (length file) (length years)) new-bytes file → a ≡ b
+  pub rebuild-taken-one-content : (a b : List ℕ) → a ≡ writtenInto (rebuiltFromTaken old oldws oldbytes ws bytes zone (length file) (length years)) new-bytes file → b ≡ writtenInto (rebuiltFromTaken old oldws oldbytes ws bytes zone (length file) (length years)) new-bytes file → a ≡ b
   rebuild-taken-one-content a b p q = one-content a b p q
 
-  pub rebuild-taken-one-list : (a b : List ℤ) → a ≡ writtenInto (rebuiltFromTaken old oldws oldbytes ws bytes (length file) (length years)) kept-years years → b ≡ writtenInto (rebuiltFromTaken old oldws oldbytes ws bytes (length file) (length years)) kept-years years → a ≡ b
+  pub rebuild-taken-one-list : (a b : List ℤ) → a ≡ writtenInto (rebuiltFromTaken old oldws oldbytes ws bytes zone (length file) (length years)) kept-years years → b ≡ writtenInto (rebuiltFromTaken old oldws oldbytes ws bytes zone (length file) (length years)) kept-years years → a ≡ b
   rebuild-taken-one-list a b p q = one-content a b p q

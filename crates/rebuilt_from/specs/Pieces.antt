@@ -30,6 +30,6 @@ pieces-inputs pieces cut ws size = held-inputs (joined pieces) (allPieces 0 piec
 -- ---- of two
 module _ (oldpieces : List (List ℕ)) (oldcut : CutAtWords oldpieces) (oldws : List ℤ) (oldsize : length oldws ≡ 252135) where
   module _ (pieces : List (List ℕ)) (cut : CutAtWords pieces) (ws : List ℤ) (size : length ws ≡ 252135) where
-    pub pieces-rebuild : (old : List ℕ) (room places : ℕ) → rebuiltFromTaken old (allPieces 0 oldpieces oldws) (length (joined oldpieces)) (allPieces 0 pieces ws) (length (joined pieces)) room places ≡ rebuiltFrom old (joined oldpieces) (joined pieces) room places
+    pub pieces-rebuild : (old : List ℕ) (zone : ℤ) (room places : ℕ) → rebuiltFromTaken old (allPieces 0 oldpieces oldws) (length (joined oldpieces)) (allPieces 0 pieces ws) (length (joined pieces)) zone room places ≡ rebuiltFrom old (joined oldpieces) (joined pieces) zone room places
     unfolding rebuiltFromTaken rebuiltFrom
-    pieces-rebuild old room places = ap₂ (λ (i j : Verdict Inputs). rebuiltWith i j old room places) (pieces-inputs oldpieces oldcut oldws oldsize) (pieces-inputs pieces cut ws size)
+    pieces-rebuild old zone room places = ap₂ (λ (i j : Verdict Inputs). rebuiltWith i j zone old room places) (pieces-inputs oldpieces oldcut oldws oldsize) (pieces-inputs pieces cut ws size)

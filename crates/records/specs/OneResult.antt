@@ -5,7 +5,6 @@ use lib.IntN.{ℤ}
 use lib.ListN.{length}
 use Rattle.refusals.specs.Verdict.{Verdict, OneToOne, one-result, one-content, answers-apart, refusals-apart, answer-or-refusal}
 use Rattle.refusals.specs.Lent.{writtenInto}
-use Rattle.clock.specs.Clock.{utc8}
 use Rattle.inputs.specs.Inputs.{Inputs}
 use Rattle.months.specs.declared.Month.{Month}
 use Rattle.months.specs.declared.Sui.{Sui}
@@ -46,9 +45,9 @@ module _ (year : ℤ) (moons zhongqi : List ℤ) (out : List Month) where
   pub months-into-one-content : (a b : List Month) → a ≡ writtenInto (recordsInto (monthsOf year moons zhongqi) (length out)) all-records out → b ≡ writtenInto (recordsInto (monthsOf year moons zhongqi) (length out)) all-records out → a ≡ b
   months-into-one-content = stored-one-content (monthsOf year moons zhongqi) out
 
-module _ (i : Inputs) (year : ℤ) (out : List Month) where
-  pub sui-into-one-result : (a b : MonthsAnswer) → paperMonths a ≡ recordsCounted (recordsInto (suiFor i utc8 year) (length out)) → paperMonths b ≡ recordsCounted (recordsInto (suiFor i utc8 year) (length out)) → a ≡ b
-  sui-into-one-result = stored-one-result (suiFor i utc8 year) out
+module _ (i : Inputs) (zone year : ℤ) (out : List Month) where
+  pub sui-into-one-result : (a b : MonthsAnswer) → paperMonths a ≡ recordsCounted (recordsInto (suiFor i zone year) (length out)) → paperMonths b ≡ recordsCounted (recordsInto (suiFor i zone year) (length out)) → a ≡ b
+  sui-into-one-result = stored-one-result (suiFor i zone year) out
 
-  pub sui-into-one-content : (a b : List Month) → a ≡ writtenInto (recordsInto (suiFor i utc8 year) (length out)) all-records out → b ≡ writtenInto (recordsInto (suiFor i utc8 year) (length out)) all-records out → a ≡ b
-  sui-into-one-content = stored-one-content (suiFor i utc8 year) out
+  pub sui-into-one-content : (a b : List Month) → a ≡ writtenInto (recordsInto (suiFor i zone year) (length out)) all-records out → b ≡ writtenInto (recordsInto (suiFor i zone year) (length out)) all-records out → a ≡ b
+  sui-into-one-content = stored-one-content (suiFor i zone year) out

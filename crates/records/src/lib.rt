@@ -10,7 +10,6 @@ ghost use mathlib.Core.Path.{_≡_};
 ghost use Prim.Native.Nat.{_<_};
 ghost use lib.ListN.{length, getD};
 ghost use Rattle.refusals.specs.Lent.{writtenInto};
-ghost use Rattle.clock.specs.Clock.{utc8};
 ghost use Rattle.inputs.specs.Inputs.{inputs};
 ghost use Rattle.months.specs.Handles.{noMonth};
 ghost use Rattle.months.specs.Limits.{monthsOf};
@@ -95,19 +94,20 @@ pub fn months_into(year: i64, moons: &[i64], zhongqi: &[i64], out: &mut [Month])
     store(found, out)
 }
 
-// The months of sui `year`, by UTC+8 days, in a lent list.
+// The months of sui `year`, by the days of a zone, in a lent list.
 pub fn sui_into(
     leap: &[i64],
     sunstart: Second,
     sun: &[i64],
     moonstart: Second,
     moon: &[i64],
+    zone: i64,
     year: i64,
     out: &mut [Month],
 ) -> MonthsAnswer
-    ensures { λ r. ⌜ paperMonths r ≡ recordsCounted (recordsInto (suiFor (inputs (now (leap .entry)) (sunstart .0) (now (sun .entry)) (moonstart .0) (now (moon .entry))) utc8 year) (length (now (out .entry)))) ⌝ }
-    ensures { λ r. ⌜ now (out .exit) ≡ writtenInto (recordsInto (suiFor (inputs (now (leap .entry)) (sunstart .0) (now (sun .entry)) (moonstart .0) (now (moon .entry))) utc8 year) (length (now (out .entry)))) all-records (now (out .entry)) ⌝ }
+    ensures { λ r. ⌜ paperMonths r ≡ recordsCounted (recordsInto (suiFor (inputs (now (leap .entry)) (sunstart .0) (now (sun .entry)) (moonstart .0) (now (moon .entry))) zone year) (length (now (out .entry)))) ⌝ }
+    ensures { λ r. ⌜ now (out .exit) ≡ writtenInto (recordsInto (suiFor (inputs (now (leap .entry)) (sunstart .0) (now (sun .entry)) (moonstart .0) (now (moon .entry))) zone year) (length (now (out .entry)))) all-records (now (out .entry)) ⌝ }
 {
-    let found = one_sui::sui(leap, sunstart, sun, moonstart, moon, year);
+    let found = one_sui::sui(leap, sunstart, sun, moonstart, moon, zone, year);
     store(found, out)
 }

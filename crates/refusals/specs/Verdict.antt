@@ -91,6 +91,11 @@ pub answered-says : {A : Type 0} {a b : A} (u : Verdict (Unit {0})) → u before
 answered-says (answered tt) e = (refl, answers-apart e)
 answered-says (refused number segment) e = answer-or-refusal (sym e)
 
+-- what answers behind a judge tells that he accepts
+pub before-answered : {A : Type 0} (u : Verdict (Unit {0})) (v : Verdict A) {a : A} → u before v ≡ answered a → (u ≡ accepted) × (v ≡ answered a)
+before-answered (answered tt) v e = (refl, e)
+before-answered (refused number segment) v e = answer-or-refusal (sym e)
+
 pub both-accepted : (u v : Verdict (Unit {0})) → u ≡ accepted → v ≡ accepted → u before v ≡ accepted
 both-accepted u v p q = rw p q
 

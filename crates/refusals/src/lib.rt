@@ -67,3 +67,9 @@ pub const LAYOUT: Refusal = Refusal {
     number: 13,
     segment: 0,
 };
+
+// 15: zone out of range.
+pub const ZONE: Refusal = Refusal {
+    number: 15,
+    segment: 0,
+};

@@ -1,4 +1,4 @@
--- The rule of a sui, computed: which marks are which, the year of a solstice by its UTC+8 day, the real suis 2033 and 2034 by their listed marks, both sides of
+-- The rule of a sui, computed: which marks are which, the year of a solstice by its day in the zone, the real suis 2033 and 2034 by their listed marks, both sides of
 -- every bound, and the order of the refusals. Assumes nothing.
 use mathlib.Core.Bool.{Bool, true, false, not, _&&_}
 use mathlib.Core.List.{List, [], _∷_, _++_}
@@ -16,14 +16,14 @@ use Rattle.refusals.specs.Evaluated.{isRefused, isRefusedAt}
 use Rattle.refusals.specs.Search.{firstBad}
 use Rattle.dates.specs.Calendar.{leapYearsTo, newYear, yearOrNext, yearOf}
 use Rattle.clock.specs.Leap.{leapLawful, wholePairs, firstEntry, nextEntry, goodEntry, holdsFrom, holds, entryUsed, insertedBy, inserted}
-use Rattle.clock.specs.Clock.{utc8, tai, localMilli, reading, readOff, countIn, dayOfMilli, dayIn}
-use Rattle.clock.specs.Answers.{leapJudged}
+use Rattle.clock.specs.Clock.{isZone, utc8, tai, localMilli, reading, readOff, countIn, dayOfMilli, dayIn}
+use Rattle.clock.specs.Answers.{zoneJudged, leapJudged}
 use Rattle.chebyshev.specs.Polynomials.{P}
 use Rattle.chebyshev.specs.Segment.{sum, value, slope}
 use Rattle.series.specs.Acceptance.{seriesJudged}
 use Rattle.marks.specs.Marks.{Mark}
 use Rattle.marks.specs.Crossings.{marked}
-use Rattle.inputs.specs.Inputs.{inputs, inputsJudged}
+use Rattle.inputs.specs.Inputs.{inputs, inputsJudged, judgedIn}
 use Rattle.months.specs.declared.SuiDays.{SuiDays}
 use Rattle.months.specs.declared.Sui.{Sui}
 use Rattle.months.specs.Handles.{numberAt, leapMark, handle, handleAt, monthOf, noMonth}
@@ -145,7 +145,7 @@ unfolding
     goodLength badMonth firstBadMonth lengthsJudged suiOf
     dayIn dayOfMilli countIn readOff reading localMilli tai inserted insertedBy any holdsFrom holds entryUsed lastBelow
     leapYearsTo newYear yearOrNext yearOf floorDiv floorMod
-    inputsJudged leapJudged leapLawful wholePairs firstEntry nextEntry goodEntry every seriesJudged firstBad value slope sum P
+    judgedIn zoneJudged isZone inputsJudged leapJudged leapLawful wholePairs firstEntry nextEntry goodEntry every seriesJudged firstBad value slope sum P
 examples =
     -- which mark is which; remainders are never negative
     isSolstice (at (pos 18))
@@ -167,9 +167,10 @@ examples =
     ∷ isMark (oneSolstice (at (pos 18) ∷ [])) (pos 18)
     ∷ isRefused (oneSolstice []) 8
     ∷ isRefused (oneSolstice (at (pos 18) ∷ at (pos 42) ∷ [])) 8
-    -- its year is that of its UTC+8 day: second -28,735 is the first of 2000 there, -28,736 the last of 1999
+    -- its year is that of its day in the zone: in UTC+8 second -28,735 is the first of 2000 and -28,736 the last of 1999; in UTC+7 and in UTC both are of 1999
     ∷ isMark (oneSolstice (solsticesOf table utc8 (marked (pos 18) (negsuc 28735) ∷ marked (pos 42) (negsuc 28734) ∷ []) (pos 1999))) (pos 18)
     ∷ isMark (oneSolstice (solsticesOf table utc8 (marked (pos 18) (negsuc 28735) ∷ marked (pos 42) (negsuc 28734) ∷ []) (pos 2000))) (pos 42)
+    ∷ isRefused (oneSolstice (solsticesOf table (pos 420) (marked (pos 18) (negsuc 28735) ∷ marked (pos 42) (negsuc 28734) ∷ []) (pos 1999))) 8
     ∷ isRefused (oneSolstice (solsticesOf table (pos 0) (marked (pos 18) (negsuc 28735) ∷ marked (pos 42) (negsuc 28734) ∷ []) (pos 1999))) 8
     -- two real suis
     ∷ isDays (suiAt (pos 0) (pos 2033)) (pos 0) 12 moons2033 zhongqi2033
@@ -196,7 +197,9 @@ examples =
     ∷ isRefused (suiAt (to1700 -ℤ pos 365) (pos 1699)) 8
     ∷ isDays (suiAt to2500 (pos 2500)) to2500 12 moons2033 zhongqi2033
     ∷ isRefused (suiAt (to2500 +ℤ pos 365) (pos 2501)) 8
-    -- 1, the Sun's 4 and the Moon's 3 before 8
+    -- 15 before 1; 1, the Sun's 4 and the Moon's 3 before 8
+    ∷ isRefused (suiFor (inputs (pos 0 ∷ pos 1001 ∷ []) (pos 0) (one (pos 552960000)) (pos 0) (one (pos 864000000))) (pos 841) (pos 1699)) 15
+    ∷ isRefused (suiFor (inputs (pos 0 ∷ pos 1001 ∷ []) (pos 0) (one (pos 552960000)) (pos 0) (one (pos 864000000))) (pos 840) (pos 1699)) 1
     ∷ isRefused (suiFor (inputs (pos 0 ∷ pos 1001 ∷ []) (pos 0) (one (pos 552960000)) (pos 0) (one (pos 864000000))) utc8 (pos 1699)) 1
     ∷ isRefusedAt (suiFor (inputs table (pos 0) (one (pos 1)) (pos 0) (one (pos 5000000000))) utc8 (pos 1699)) 4 0
     ∷ isRefusedAt (suiFor (inputs table (pos 0) (one (pos 552960000)) (pos 0) (one (pos 5000000000))) utc8 (pos 1699)) 3 0

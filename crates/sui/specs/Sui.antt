@@ -11,7 +11,7 @@ use Rattle.dates.specs.Calendar.{yearOf}
 use Rattle.clock.specs.Clock.{dayIn}
 use Rattle.marks.specs.Marks.{Mark}
 use Rattle.marks.specs.Listed.{listedMarks}
-use Rattle.inputs.specs.Inputs.{Inputs, sun, moon, second, inputsJudged}
+use Rattle.inputs.specs.Inputs.{Inputs, sun, moon, second, judgedIn}
 use Rattle.months.specs.declared.SuiDays.{SuiDays}
 use Rattle.months.specs.declared.Sui.{Sui}
 use Rattle.months.specs.Months.{daysOf, suiOf}
@@ -82,6 +82,6 @@ module _ (i : Inputs) (zone : ℤ) where
   abbrev pub suiOfYear : ℤ → Verdict Sui
   suiOfYear year = suiDays year then suiOf year
 
--- the whole: 1; Sun 2 to 5; Moon 2 to 5; 7; 8; 9; 10
+-- the whole: 15; 1; Sun 2 to 5; Moon 2 to 5; 7; 8; 9; 10
 unfoldable pub suiFor : Inputs → ℤ → ℤ → Verdict Sui
-suiFor i zone year = inputsJudged i before suiOfYear i zone year
+suiFor i zone year = judgedIn i zone before suiOfYear i zone year

@@ -72,7 +72,7 @@ pub record IsSuiOf (i : Inputs) (zone year : ℤ) (sui : Sui) : Type 0 where
 pub answered-is-sui : (i : Inputs) (zone year : ℤ) {sui : Sui} → suiFor i zone year ≡ answered sui → IsSuiOf i zone year sui
 unfolding suiFor suiIn
 answered-is-sui i zone year {sui} e =
-    let judged = inputs-answered i (suiDays i zone year then suiOf year) e in
+    let judged = inputs-answered i zone (suiDays i zone year then suiOf year) e in
     let k = known i (judged .0) in
     let made = then-answered (suiDays i zone year) (suiOf year) sui (judged .1) in
     let found = days-found i zone year (made .1) in

@@ -1,5 +1,6 @@
-// Prints the months of real suis, from cuts of real series, one line a month: year, number, leap mark, handle, first day, length; for a refused sui the year, `R`
-// and the number. No contract can hold what a program prints; what it must print comes from an independent program (tests/sui_real.py).
+// Prints the months of real suis, from cuts of real series, in UTC+8, in UTC+7 and beyond the last zone, one line a month: year, number, leap mark, handle, first day,
+// length; for a refused sui the year, `R` and the number. No contract can hold what a program prints; what it must print comes from an independent program
+// (tests/sui_real.py).
 use dates::DateAnswer;
 use months::Month;
 use months::SuiAnswer;
@@ -80,8 +81,8 @@ fn print_sui(year: i64, found: SuiAnswer) {
     }
 }
 
-// The six suis of an input.
-fn print_suis(words: &[i64]) {
+// The six suis of an input, in a zone.
+fn print_suis(words: &[i64], zone: i64) {
     if words.len() != 4670 {
         return;
     }
@@ -94,11 +95,19 @@ fn print_suis(words: &[i64]) {
             &words[63..581],
             Second(words[581]),
             &words[582..4670],
+            zone,
             year,
         );
         print_sui(year, found);
         k += 1;
     }
+}
+
+fn print_zone(words: &[i64], zone: i64) {
+    io::write_all(1, b"zone ");
+    print(zone);
+    io::write_all(1, b"\n");
+    print_suis(words, zone);
 }
 
 // The suis of the file that argument i names.
@@ -122,7 +131,9 @@ fn print_case(i: usize) {
     }
     let mut words = zeros();
     words::inner::read_words(&input, 4670, &mut words);
-    print_suis(&words);
+    print_zone(&words, 480);
+    print_zone(&words, 420);
+    print_zone(&words, 841);
 }
 
 fn main() {

@@ -4,12 +4,10 @@ use mathlib.Core.Bool.{true}
 use borrow.Author.Tests.{not-true, not-false}
 use lib.IntN.{pos, natAbs}
 use mir.Facts.{toZ-ofZ}
-use Rattle.whole.specs.Ranges.{within, bounds}
 use Rattle.whole.specs.Tests.{inRange}
-use Rattle.refusals.specs.Verdict.{paperCheck, accepted-is}
-use Rattle.clock.specs.Clock.{utc8}
-use Rattle.inputs.specs.Inputs.{Inputs, inputs, InputsAccepted}
-use Rattle.inputs.specs.Theorems.{known}
+use Rattle.refusals.specs.Verdict.{accepted, paperCheck, accepted-is}
+use Rattle.inputs.specs.Inputs.{Inputs, inputs, judgedIn}
+use Rattle.inputs.specs.Theorems.{known, accepted-in}
 use Rattle.built.specs.theory.Count.{count-natural, count-small}
 use Rattle.build.specs.theory.Count.{inputs-refused, count-refused, years-built}
 use borrow.Author.Needs.{needs}
@@ -18,14 +16,14 @@ use Rattle.build.proofs.build.Tie as tie
 use Rattle.build.proofs.build.Reads as reads
 use Rattle.build.proofs.build.Lts as lts
 use Rattle.build.proofs.inner.build_in.Reads as build-in-reads
-use Rattle.inputs.proofs.judge.Reads as judge-reads
+use Rattle.inputs.proofs.judge_in.Reads as judge-in-reads
 use Rattle.whole.proofs.inner.count.Reads as count-reads
 use Rattle.whole.proofs.inner.in_range.Reads as in-range-reads
 
 abbrev called : lts.Claims
 called = (
-  judge-reads.Asked,
-  judge-reads.Learnt,
+  judge-in-reads.Asked,
+  judge-in-reads.Learnt,
   in-range-reads.Asked,
   in-range-reads.Learnt,
   count-reads.Asked,
@@ -41,8 +39,13 @@ abbrev inputs-of : Start → Inputs
 inputs-of start = let a = start .args in inputs (a .leap .now) (a .sunstart .0) (a .sun .now) (a .moonstart .0) (a .moon .now)
 
 -- ---- what is known at each place
-at-judged : (c : lts.After-enum-told called reads.Pre reads.Post) → InputsAccepted (inputs-of (c .before .before .before .before))
-at-judged c = accepted-is (c .before .before .judge .ensures) (c .enum-told .given .1)
+-- what the judge said, of this function's own zone
+at-judge : (c : lts.After-judge-in called reads.Pre reads.Post) → paperCheck (c .judge-in .result) ≡ judgedIn (inputs-of (c .before .before)) (c .before .before .args .zone)
+at-judge c = rw (toZ-ofZ (c .before .before .fits .zone)) at (c .judge-in .ensures)
+
+-- zone and inputs are accepted
+at-judged : (c : lts.After-enum-told called reads.Pre reads.Post) → (let start = c .before .before .before .before in judgedIn (inputs-of start) (start .args .zone) ≡ accepted)
+at-judged c = accepted-is (at-judge (c .before .before)) (c .enum-told .given .1)
 
 at-range : (c : lts.After-in-range called reads.Pre reads.Post) → c .in-range .result ≡ inRange (pos 1) (pos 128) (c .before .before .before .before .before .args .count)
 at-range c = rw (toZ-ofZ (c .before .before .before .before .before .fits .count)) at (c .in-range .ensures)
@@ -55,8 +58,8 @@ at-count c = ap natAbs (rw (toZ-ofZ (c .before .before .before .before .before .
 
 -- ---- the needs
 
-judge-requires : tie.Need-judge-requires
-judge-requires c κs = search needs
+judge-in-requires : tie.Need-judge-in-requires
+judge-in-requires c κs = search needs
 
 enum-known-check : tie.Need-enum-known-check
 enum-known-check c = search needs
@@ -66,7 +69,7 @@ returns c =
     let judged = c .before .before .before in
     let start = judged .before .before in
     let a = start .args in
-    inputs-refused (inputs-of start) utc8 (a .first) (a .count) (a .file .now) (sym (judged .judge .ensures) ∙ ap paperCheck (c .before .check .given .1))
+    inputs-refused (inputs-of start) (a .zone) (a .first) (a .count) (a .file .now) (sym (at-judge judged) ∙ ap paperCheck (c .before .check .given .1))
 
 enum-told : tie.Need-enum-told
 enum-told c = search needs
@@ -79,7 +82,7 @@ returns-2 c =
     let judged = c .before .before in
     let start = judged .before .before .before .before in
     let a = start .args in
-    count-refused (inputs-of start) utc8 (a .first) (a .count) (a .file .now) (at-judged judged) (sym (at-range (c .before)) ∙ not-true (c .before .in-range .result) (c .if1 .taken))
+    count-refused (inputs-of start) (a .zone) (a .first) (a .count) (a .file .now) (at-judged judged) (sym (at-range (c .before)) ∙ not-true (c .before .in-range .result) (c .if1 .taken))
 
 count-requires : tie.Need-count-requires
 count-requires c κs = let start = c .before .before .before .before .before .before in rw (toZ-ofZ (start .fits .count)) (count-natural (start .args .count) (at-few c))
@@ -90,7 +93,8 @@ build-in-requires c κs =
     let few = counted .before in
     let judged = few .before .before in
     let start = judged .before .before .before .before in
-    rw (at-count counted) (known (inputs-of start) (at-judged judged), (within (search bounds) tt, count-small (start .args .count) (at-few few)))
+    let is = accepted-in (inputs-of start) (start .args .zone) (at-judged judged) in
+    rw (at-count counted, toZ-ofZ (start .fits .zone)) (known (inputs-of start) (is .1), (is .0, count-small (start .args .count) (at-few few)))
 
 same-length : tie.Need-same-length
 same-length c = search needs
@@ -103,13 +107,13 @@ returns-3 c =
     let judged = few .before .before in
     let start = judged .before .before .before .before in
     let a = start .args in
-    years-built (inputs-of start) utc8 (a .first) (a .count) (a .file .now) (at-judged judged) (at-few few) (rw (at-count counted, toZ-ofZ (start .fits .first)) at (built .build-in .ensures))
+    years-built (inputs-of start) (a .zone) (a .first) (a .count) (a .file .now) (at-judged judged) (at-few few) (rw (at-count counted, toZ-ofZ (start .fits .zone), toZ-ofZ (start .fits .first)) at (built .build-in .ensures))
 
 pub build-spec : {M : Type 1} → statement M
 build-spec =
     tie.close
     (tie.spec
-    judge-requires
+    judge-in-requires
     enum-known-check
     returns
     enum-told

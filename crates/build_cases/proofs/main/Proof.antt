@@ -17,6 +17,9 @@ arg-count-requires c κs = search needs
 loop-holds : tie.Need-loop-holds Inv-loop μ-loop
 loop-holds c = tt
 
+returns : tie.Need-returns Inv-loop μ-loop
+returns c = search needs
+
 build-case-requires : tie.Need-build-case-requires Inv-loop μ-loop
 build-case-requires c κs = search needs
 
@@ -29,8 +32,8 @@ loop-less c = omega arith
 loop-again : tie.Need-loop-again Inv-loop μ-loop
 loop-again c = tt
 
-returns : tie.Need-returns Inv-loop μ-loop
-returns c = search needs
+returns-2 : tie.Need-returns-2 Inv-loop μ-loop
+returns-2 c = search needs
 
 pub main-spec : {M : Type 1} → statement M
 main-spec =
@@ -40,8 +43,9 @@ main-spec =
     μ-loop
     arg-count-requires
     loop-holds
+    returns
     build-case-requires
     add-i
     loop-less
     loop-again
-    returns)
+    returns-2)

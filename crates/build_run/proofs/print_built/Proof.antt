@@ -34,14 +34,14 @@ array-share-prefix-file c =
     let told = c .before in
     let built = told .before .before .before in
     let a = built .before .before .before .args in
-    written-inside (builtFromTaken (a .words .now) (a .bytes) _) _ (sym (ap paperWritten (told .answer2 .given .1)) ∙ built .build-taken .ensures .0) (built .build-taken .ensures .1)
+    written-inside (builtFromTaken (a .words .now) (a .bytes) _ _) _ (sym (ap paperWritten (told .answer2 .given .1)) ∙ built .build-taken .ensures .0) (built .build-taken .ensures .1)
 
 slice-aggregate-write-all : tie.Need-slice-aggregate-write-all
 slice-aggregate-write-all c =
     let told = c .before .before in
     let built = told .before .before .before in
     let a = built .before .before .before .args in
-    sym (length-take-le _ _ (written-inside (builtFromTaken (a .words .now) (a .bytes) _) _ (sym (ap paperWritten (told .answer2 .given .1)) ∙ built .build-taken .ensures .0) (built .build-taken .ensures .1)))
+    sym (length-take-le _ _ (written-inside (builtFromTaken (a .words .now) (a .bytes) _ _) _ (sym (ap paperWritten (told .answer2 .given .1)) ∙ built .build-taken .ensures .0) (built .build-taken .ensures .1)))
 
 write-all-requires : tie.Need-write-all-requires
 write-all-requires c κs = search needs

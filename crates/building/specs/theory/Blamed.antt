@@ -10,6 +10,8 @@ use Rattle.refusals.specs.declared.Refusal.{Refusal}
 use Rattle.refusals.specs.declared.Check.{Check}
 use Rattle.refusals.specs.declared.Check.the-variants.{Accepted, Refused}
 use Rattle.refusals.specs.Verdict.{Verdict, answered, refused, paperCheck}
+use Rattle.clock.specs.Clock.{isZone}
+use Rattle.clock.specs.Answers.{zoneJudged}
 use Rattle.layout.specs.declared.inner.Places.{Places}
 use Rattle.layout.specs.Layout.{places, inputsAt}
 use Rattle.building.specs.declared.SeriesAnswer.{SeriesAnswer}
@@ -48,11 +50,16 @@ module _ (ws : List ℤ) where
   unfolding refusedInWords
   enough h = rw (le-ltb (length ws) 2 h)
 
-module _ (ws : List ℤ) (bytes : ℕ) where
-  pub not-taken : allTaken ws bytes ≡ false → Neither ≡ refusedInTaken ws bytes
-  unfolding refusedInTaken
-  not-taken e = rw e
+module _ (ws : List ℤ) (bytes : ℕ) (zone : ℤ) where
+  pub no-zone : isZone zone ≡ false → Neither ≡ refusedInTaken ws bytes zone
+  unfolding refusedInTaken zoneJudged
+  no-zone z = rw z
 
-  pub taken : allTaken ws bytes ≡ true → refusedInTaken ws bytes ≡ refusedInWords (take (bytes / 8) ws)
-  unfolding refusedInTaken
-  taken e = rw e
+  module _ (z : isZone zone ≡ true) where
+    pub not-taken : allTaken ws bytes ≡ false → Neither ≡ refusedInTaken ws bytes zone
+    unfolding refusedInTaken zoneJudged
+    not-taken e = rw (z, e)
+
+    pub taken : allTaken ws bytes ≡ true → refusedInTaken ws bytes zone ≡ refusedInWords (take (bytes / 8) ws)
+    unfolding refusedInTaken zoneJudged
+    taken e = rw (z, e)

@@ -11,7 +11,8 @@ use lib.ListN.{length, getD, take, drop, length-append}
 use Rattle.whole.specs.Booleans.{both}
 use Rattle.refusals.specs.Verdict.{Verdict, answered, refused, answers-apart, answer-or-refusal}
 use Rattle.refusals.specs.Lent.{writtenInto}
-use Rattle.clock.specs.Clock.{utc8}
+use Rattle.clock.specs.Clock.{isZone}
+use Rattle.clock.specs.Answers.{zoneJudged}
 use Rattle.layout.specs.declared.inner.Places.{Places}
 use Rattle.layout.specs.Layout.{places, inputsAt}
 use Rattle.almanac.specs.Answers.{bytesCounted, all-bytes}
@@ -34,21 +35,21 @@ written-inside (answered bytes) file p q = let n = answers-apart p in rw q (omeg
 written-inside (refused number segment) file p q = answer-or-refusal p
 
 -- ---- the cases
-module _ (ws : List ℤ) (first count : ℤ) (room : ℕ) where
-  pub rest-broken : {number segment : ℕ} → places ws ≡ refused number segment → builtFromRest ws first count room ≡ refused number segment
+module _ (ws : List ℤ) (zone first count : ℤ) (room : ℕ) where
+  pub rest-broken : {number segment : ℕ} → places ws ≡ refused number segment → builtFromRest ws zone first count room ≡ refused number segment
   unfolding builtFromRest
   rest-broken e = rw e
 
-  pub rest-found : {p : Places} → places ws ≡ answered p → builtFromRest ws first count room ≡ bytesBuilt (inputsAt ws p) utc8 first count room
+  pub rest-found : {p : Places} → places ws ≡ answered p → builtFromRest ws zone first count room ≡ bytesBuilt (inputsAt ws p) zone first count room
   unfolding builtFromRest
   rest-found e = rw e
 
-module _ (ws : List ℤ) (room : ℕ) where
-  pub too-few : length ws < 2 → builtFromWords ws room ≡ refused 13 0
+module _ (ws : List ℤ) (zone : ℤ) (room : ℕ) where
+  pub too-few : length ws < 2 → builtFromWords ws zone room ≡ refused 13 0
   unfolding builtFromWords
   too-few h = rw (lt-ltb (length ws) 2 h)
 
-  pub enough : 2 ≤ length ws → builtFromWords ws room ≡ builtFromRest (drop 2 ws) (getD ws 0 (pos 0)) (getD ws 1 (pos 0)) room
+  pub enough : 2 ≤ length ws → builtFromWords ws zone room ≡ builtFromRest (drop 2 ws) zone (getD ws 0 (pos 0)) (getD ws 1 (pos 0)) room
   unfolding builtFromWords
   enough h = rw (le-ltb (length ws) 2 h)
 
@@ -64,11 +65,16 @@ bounded ws bytes e =
     let all = both (lengthKept bytes) (leb (bytes / 8) (length ws)) e in
     (not-too-long bytes (all .0), leb-true (bytes / 8) (length ws) (all .1))
 
-module _ (ws : List ℤ) (bytes room : ℕ) where
-  pub not-taken : allTaken ws bytes ≡ false → builtFromTaken ws bytes room ≡ refused 13 0
-  unfolding builtFromTaken
-  not-taken e = rw e
+module _ (ws : List ℤ) (bytes : ℕ) (zone : ℤ) (room : ℕ) where
+  pub no-zone : isZone zone ≡ false → builtFromTaken ws bytes zone room ≡ refused 15 0
+  unfolding builtFromTaken zoneJudged
+  no-zone z = rw z
 
-  pub taken : allTaken ws bytes ≡ true → builtFromTaken ws bytes room ≡ builtFromWords (take (bytes / 8) ws) room
-  unfolding builtFromTaken
-  taken e = rw e
+  module _ (z : isZone zone ≡ true) where
+    pub not-taken : allTaken ws bytes ≡ false → builtFromTaken ws bytes zone room ≡ refused 13 0
+    unfolding builtFromTaken zoneJudged
+    not-taken e = rw (z, e)
+
+    pub taken : allTaken ws bytes ≡ true → builtFromTaken ws bytes zone room ≡ builtFromWords (take (bytes / 8) ws) zone room
+    unfolding builtFromTaken zoneJudged
+    taken e = rw (z, e)

@@ -1,37 +1,50 @@
--- What an accepted table and second are known to be, and what an answer tells. Assumes nothing.
+-- What an accepted zone, table and second are known to be. Assumes nothing.
 use mathlib.Core.Path.{_≡_}
 use mathlib.Core.Bool.{true, false, not}
-use mathlib.Core.List.{List}
+use mathlib.Core.List.{List, [], _∷_}
+use native.Mathlib.Omega.{arith}
 use borrow.Author.Tests.{not-false}
-use lib.IntN.{ℤ}
-use Rattle.whole.specs.Ranges.{Within, within, bounds}
+use lib.IntN.{ℤ, pos, negsuc}
+use Rattle.whole.specs.Ranges.{Within}
+use Rattle.whole.specs.Solver.{⇑, ⇓, ring}
+use Rattle.whole.specs.Tests.{in-range-says}
 use Rattle.refusals.specs.Verdict.{accepted, _before_, refuseWhen, before-accepted, refuseWhen-accepted}
 use Rattle.times.specs.declared.Second.{Second}
 use Rattle.clock.specs.Leap.{leapLawful, holds}
-use Rattle.clock.specs.Clock.{utc8, convertible, tai, early, Readable}
-use Rattle.clock.specs.Answers.{leapJudged, clockJudged}
+use Rattle.clock.specs.Clock.{isZone, convertible, tai, early, Readable}
+use Rattle.clock.specs.Answers.{zoneJudged, leapJudged, clockJudged}
+
+-- every zone is within 1,000 minutes
+pub zone-is-small : (zone : ℤ) → isZone zone ≡ true → Within 1000 zone
+unfolding isZone
+zone-is-small zone e =
+    let r = in-range-says (negsuc 719) (pos 840) zone e in
+    let ρ = zone ∷ [] in
+    record { within = ⇑ ρ (search ring) (omega (arith, ⇓ ρ (r .0) (search ring), ⇓ ρ (r .1) (search ring))) }
+
+pub zone-known : (zone : ℤ) → zoneJudged zone ≡ accepted → Within 1000 zone
+unfolding zoneJudged
+zone-known zone e = zone-is-small zone (not-false (isZone zone) (refuseWhen-accepted (not (isZone zone)) 15 e))
 
 pub lawful-known : (w : List ℤ) → leapJudged w ≡ accepted → leapLawful w ≡ true
 unfolding leapJudged
 lawful-known w e = not-false (leapLawful w) (refuseWhen-accepted (not (leapLawful w)) 1 e)
 
--- the second, once the table is judged
-pub readable : (w : List ℤ) (s : Second) (zone : ℤ) → clockJudged w s ≡ accepted → Within 1000 zone → Readable w s zone
+-- all of it
+pub readable : (w : List ℤ) (s : Second) (zone : ℤ) → clockJudged w s zone ≡ accepted → Readable w s zone
 unfolding clockJudged
-readable w s zone e z =
-    let behind = refuseWhen (not (convertible s)) 6 before refuseWhen (early w s) 7 in
-    let a = before-accepted (leapJudged w) behind e in
-    let b = before-accepted (refuseWhen (not (convertible s)) 6) (refuseWhen (early w s) 7) (a .1) in
+readable w s zone e =
+    let late = refuseWhen (early w s) 7 in
+    let converted = refuseWhen (not (convertible s)) 6 in
+    let z = before-accepted (zoneJudged zone) (leapJudged w before converted before late) e in
+    let a = before-accepted (leapJudged w) (converted before late) (z .1) in
+    let b = before-accepted converted late (a .1) in
     record {
       lawful-table = lawful-known w (a .0);
       in-range = not-false (convertible s) (refuseWhen-accepted (not (convertible s)) 6 (b .0));
       not-early = refuseWhen-accepted (early w s) 7 (b .1);
-      zone-small = z;
+      zone-small = zone-known zone (z .0);
     }
-
--- in UTC+8
-pub readable-utc8 : (w : List ℤ) (s : Second) → clockJudged w s ≡ accepted → Readable w s utc8
-readable-utc8 w s e = readable w s utc8 e (within (search bounds) tt)
 
 -- what is not early has a first entry that holds, and the other way round
 pub first-holds : (w : List ℤ) (s : Second) → early w s ≡ false → holds w (tai s) 0 ≡ true

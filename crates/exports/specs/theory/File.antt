@@ -8,7 +8,6 @@ use borrow.Author.Tests.{ltb-false}
 use lib.Dec.{ltb, eqb}
 use lib.IntN.{ℤ, pos, natAbs, _+ℤ_}
 use lib.ListN.{length, length-append}
-use Rattle.whole.specs.Ranges.{Within}
 use Rattle.whole.specs.Tests.{inRange}
 use Rattle.words.specs.Words.{pattern4}
 use Rattle.refusals.specs.Verdict.{answered, refuseWhen, _before_, answers-apart, test-answered, then-answered}
@@ -26,7 +25,8 @@ use Rattle.rebuilt.specs.Rebuild.{NewFile, yearsIn, isFile, mostBytes, givenBy,
 use Rattle.rebuilt.specs.Theorems.{rebuilt-is-fresh, given-means, most-bytes-are-enough}
 use Rattle.rebuild.specs.theory.Judging.{years-few}
 use Rattle.answers.specs.Fits.{Fits, none, itself, fileSize, rebuiltSize, answer, test, _and_, and-then, with-answer}
-use Rattle.exports.specs.theory.Sky.{inputs-fit}
+use Rattle.exports.specs.theory.Time.{zone-fits}
+use Rattle.exports.specs.theory.Sky.{inputs-fit-in}
 use Rattle.exports.specs.theory.Suis.{sui-of-year-fits}
 
 -- ---- a file that is checked or read has at most 64 leap entries, 128 suis and 1,664 months
@@ -111,13 +111,13 @@ module _ (i : Inputs) (zone : ℤ) where
     unfolding builtBy
     built-within-room bytes e =
         let bad = not (inRange (pos 1) (pos 128) count) in
-        let judged = inputs-answered i (refuseWhen bad 8 before bytesOfYears i zone first (natAbs count) room) e in
+        let judged = inputs-answered i zone (refuseWhen bad 8 before bytesOfYears i zone first (natAbs count) room) e in
         let built = test-answered bad 8 (bytesOfYears i zone first (natAbs count) room) bytes (judged .1) in
         years-within-room first (natAbs count) room bytes (built .1)
 
     bytes-built-fit : length (i .sunCoefs) < 2 ^ 63 → length (i .moonCoefs) < 2 ^ 63 → Fits none (bytesBuilt i zone first count room)
     unfolding builtBy
-    bytes-built-fit h k = inputs-fit i h k and test (not (inRange (pos 1) (pos 128) count)) 8 tt and bytes-fit first (natAbs count) room
+    bytes-built-fit h k = inputs-fit-in i zone h k and test (not (inRange (pos 1) (pos 128) count)) 8 tt and bytes-fit first (natAbs count) room
 
     pub build-fits : length (i .sunCoefs) < 2 ^ 63 → length (i .moonCoefs) < 2 ^ 63 → room < 2 ^ 63 → Fits itself (fileBuilt i zone first count room)
     unfolding fileBuilt
@@ -145,18 +145,19 @@ module _ (old new : Inputs) (zone : ℤ) (file : List ℕ) (room places : ℕ) w
   rebuilt-fits : length (new .sunCoefs) < 2 ^ 63 → length (new .moonCoefs) < 2 ^ 63 → Fits none (rebuilt old new zone file room places)
   unfolding rebuiltBy newFileBy givenBy
   rebuilt-fits h k =
-      and-then
+      zone-fits zone
+      and and-then
       (and-then (file-of-fits file) (λ c. test (not (isFile (bytesBuilt old zone (yearsIn c .first) (pos (yearsIn c .count)) mostBytes) file)) 13 tt and answer (omega arith)))
       (λ y. and-then (bytes-built-fit new zone (y .first) (pos (y .count)) room h k) (λ bytes. test (ltb places (length (keptBy (kept old new zone) (y .first) (y .count)))) 12 tt and answer (omega arith)))
 
-  pub rebuild-fits : Within 1000 zone → length (new .sunCoefs) < 2 ^ 63 → length (new .moonCoefs) < 2 ^ 63 → Fits rebuiltSize (counted (rebuilt old new zone file room places))
-  rebuild-fits small h k =
+  pub rebuild-fits : length (new .sunCoefs) < 2 ^ 63 → length (new .moonCoefs) < 2 ^ 63 → Fits rebuiltSize (counted (rebuilt old new zone file room places))
+  rebuild-fits h k =
       with-answer (and-then (rebuilt-fits h k) (λ n. answer (omega arith)))
       (λ r e.
       let all = then-answered (rebuilt old new zone file room places) (λ (n : NewFile). answered (record { bytes = length (n .bytes); years = length (n .years) })) r e in
       let fresh = rebuilt-is-fresh old new zone file room places (all .1) in
       let y = fresh .years in
-      let few = built-within-room new zone (y .first) (pos (y .count)) mostBytes (all .0 .bytes) (most-bytes-are-enough new zone (y .first) (pos (y .count)) room (fresh .is-fresh) small) in
+      let few = built-within-room new zone (y .first) (pos (y .count)) mostBytes (all .0 .bytes) (most-bytes-are-enough new zone (y .first) (pos (y .count)) room (fresh .is-fresh)) in
       let listed = few-years (kept old new zone) (y .first) (y .count) in
       let is-given = given-means old zone file y .0 (fresh .is-given) in
       let many = years-few file {y = y} (rw (is-given .is-read) (ap answered (is-given .years-are))) .1 in

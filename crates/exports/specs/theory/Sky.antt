@@ -20,9 +20,9 @@ use Rattle.marks.specs.Listed.{listedMarks}
 use Rattle.marks.specs.Answers.{countedMarks, listedInto}
 use Rattle.marks.specs.Theorems.{listed-only-when}
 use Rattle.marks.specs.theory.StretchLaws.{few}
-use Rattle.inputs.specs.Inputs.{Inputs, sun, moon, anyEarly, inputsJudged}
+use Rattle.inputs.specs.Inputs.{Inputs, sun, moon, anyEarly, inputsJudged, judgedIn}
 use Rattle.answers.specs.Fits.{Fits, inTable, none, itself, answer, test, _and_, and-then, with-answer}
-use Rattle.exports.specs.theory.Time.{leap-fits}
+use Rattle.exports.specs.theory.Time.{zone-fits, leap-fits}
 
 -- ---- series: a segment that is named is one of the series'
 first-bad-fits : (number : ℕ) → T (inTable number) → (bad : ℕ → Bool) (k m : ℕ) → k + m < 2 ^ 63 → Fits none (firstBad number bad k m)
@@ -86,3 +86,7 @@ inputs-fit i h k =
     and series-fits (sun i) h
     and series-fits (moon i) k
     and test (anyEarly (i .leap) (listedMarks (sun i)) || anyEarly (i .leap) (listedMarks (moon i))) 7 tt
+
+pub inputs-fit-in : (i : Inputs) (zone : ℤ) → length (i .sunCoefs) < 2 ^ 63 → length (i .moonCoefs) < 2 ^ 63 → Fits none (judgedIn i zone)
+unfolding judgedIn
+inputs-fit-in i zone h k = zone-fits zone and inputs-fit i h k

@@ -36,7 +36,7 @@ use Rattle.built.specs.theory.Words.{length-words-of}
 use Rattle.answers.specs.Record.{recordOf, noNumbers, countNumbers}
 use Rattle.answers.specs.Months.{suiWords, suiInto, suiNumbers}
 use Rattle.answers.specs.Fits.{Fits, none, answer, test, _and_, and-then}
-use Rattle.exports.specs.theory.Sky.{inputs-fit}
+use Rattle.exports.specs.theory.Sky.{inputs-fit-in}
 
 -- ---- what storing asks
 pub record Whole (sui : Sui) : Type 0 where
@@ -87,7 +87,7 @@ module _ (i : Inputs) (zone : ℤ) where
 
   sui-fits : length (i .sunCoefs) < 2 ^ 63 → length (i .moonCoefs) < 2 ^ 63 → (year : ℤ) → Fits none (suiFor i zone year)
   unfolding suiFor
-  sui-fits h k year = inputs-fit i h k and sui-of-year-fits year
+  sui-fits h k year = inputs-fit-in i zone h k and sui-of-year-fits year
 
 -- ---- so what is found can be stored
 pub months-storable : (year : ℤ) (moons zhongqi : List ℤ) → Storable (monthsOf year moons zhongqi)

@@ -11,8 +11,8 @@ use Rattle.dates.specs.declared.Date.{Date}
 use Rattle.dates.specs.Calendar.{valid, dayNumber}
 use Rattle.dates.specs.Answers.{hasDate, dateOf, dayOf}
 use Rattle.clock.specs.Leap.{leapLawful, inserted}
-use Rattle.clock.specs.Clock.{utc8, convertible, tai, early, reading, countIn, secondSaid, shownBy, shownIn}
-use Rattle.clock.specs.Answers.{leapJudged, clockJudged, milliOf, dayOfSecond, shownOf}
+use Rattle.clock.specs.Clock.{isZone, convertible, tai, early, reading, countIn, secondSaid, shownBy, shownIn}
+use Rattle.clock.specs.Answers.{zoneJudged, leapJudged, clockJudged, milliOf, dayOfSecond, shownOf}
 use Rattle.answers.specs.Fits.{Fits, none, shownSize, answer, test, _and_}
 
 -- ---- days and dates
@@ -30,27 +30,31 @@ unfolding secondSaid
 second-fits true rest = omega arith
 second-fits false rest = omega arith
 
+pub zone-fits : (zone : ℤ) → Fits none (zoneJudged zone)
+unfolding zoneJudged
+zone-fits zone = test (not (isZone zone)) 15 tt
+
 module _ (leap : List ℤ) where
   pub leap-fits : Fits none (leapJudged leap)
   unfolding leapJudged
   leap-fits = test (not (leapLawful leap)) 1 tt
 
-  module _ (s : Second) where
-    clock-fits : Fits none (clockJudged leap s)
+  module _ (s : Second) (zone : ℤ) where
+    clock-fits : Fits none (clockJudged leap s zone)
     unfolding clockJudged
-    clock-fits = leap-fits and test (not (convertible s)) 6 tt and test (early leap s) 7 tt
+    clock-fits = zone-fits zone and leap-fits and test (not (convertible s)) 6 tt and test (early leap s) 7 tt
 
-    pub milli-fits : Fits none (milliOf leap s)
+    pub milli-fits : Fits none (milliOf leap s zone)
     unfolding milliOf
     milli-fits = clock-fits and answer (omega arith)
 
-    pub day-of-second-fits : Fits none (dayOfSecond leap s)
+    pub day-of-second-fits : Fits none (dayOfSecond leap s zone)
     unfolding dayOfSecond
     day-of-second-fits = clock-fits and answer (omega arith)
 
     -- the millisecond of the day, and what is read off it, is less than a day
-    pub shown-fits : Fits shownSize (shownOf leap s)
+    pub shown-fits : Fits shownSize (shownOf leap s zone)
     unfolding shownOf shownIn shownBy countIn reading
     shown-fits =
-        let rest = floorMod (countIn leap s utc8 .0) 86400000 in
-        clock-fits and answer (omega (arith, floorMod-lt (countIn leap s utc8 .0) 86400000 (omega arith), second-fits (inserted leap (tai s)) rest))
+        let rest = floorMod (countIn leap s zone .0) 86400000 in
+        clock-fits and answer (omega (arith, floorMod-lt (countIn leap s zone .0) 86400000 (omega arith), second-fits (inserted leap (tai s)) rest))

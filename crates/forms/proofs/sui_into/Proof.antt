@@ -48,7 +48,6 @@ use Rattle.refusals.specs.Verdict.{Verdict}
 use Rattle.refusals.specs.Lent.{writtenInto}
 use Rattle.times.specs.declared.Second.{Second}
 use Rattle.times.proofs.Second as N
-use Rattle.clock.specs.Clock.{utc8}
 use Rattle.inputs.specs.Inputs.{inputs}
 use Rattle.months.specs.declared.Month.{Month}
 use Rattle.months.specs.declared.Sui.{Sui}
@@ -92,15 +91,15 @@ abbrev L₂ : (κs : Lfts 4) → LL.Laws (D₂ κs)
 L₂ κs = T′.the-laws (namedLft 4 2 tt κs)
 
 abbrev stayed : Stays (self.ended .signature .params) (self.ended .kept)
-stayed = (stay-none-slice (0 ∷ []) tt (plain (λ _. i64)) yes, (stay-none R₁ yes, (stay-none R₂ yes, (stay-none (λ _. i64) yes, (gave-slice (3 ∷ []) tt (plain (λ _. O.the-row)), tt)))))
+stayed = (stay-none-slice (0 ∷ []) tt (plain (λ _. i64)) yes, (stay-none R₁ yes, (stay-none R₂ yes, (stay-none (λ _. i64) yes, (stay-none (λ _. i64) yes, (gave-slice (3 ∷ []) tt (plain (λ _. O.the-row)), tt))))))
 
 module _ {M : Type 1} (𝓤 : URA M) (H : Heap 𝓤) (A : Atoms 𝓤) (mem : Memory → SProp 𝓤) (run : Routine → Fun 𝓤) where
   -- the contract that the proof cites
   abbrev Callee : Contract 𝓤
   Callee = tripleOf 𝓤 H A callee.signature (callee.spec 𝓤 H A mem run)
 
-module _ {M : Type 1} (𝓤 : URA M) (H : Heap 𝓤) (A : Atoms 𝓤) (W : Given 𝓤 H A) (mem : Memory → SProp 𝓤) (run : Routine → Fun 𝓤) (κ κ′ κ″ κ‴ : Lft) (q q′ q″ q‴ : Share) (leap : RefT (List ℤ)) (sun moon : Series) (year : ℤ) (b o : ℕ) (γ : GName) (ys : List Month)
-    (is-sun : IsSecond (sun .start)) (is-moon : IsSecond (moon .start)) (year-fits : mag year < 2 ^ 63) where
+module _ {M : Type 1} (𝓤 : URA M) (H : Heap 𝓤) (A : Atoms 𝓤) (W : Given 𝓤 H A) (mem : Memory → SProp 𝓤) (run : Routine → Fun 𝓤) (κ κ′ κ″ κ‴ : Lft) (q q′ q″ q‴ : Share) (leap : RefT (List ℤ)) (sun moon : Series) (zone year : ℤ) (b o : ℕ) (γ : GName) (ys : List Month)
+    (is-sun : IsSecond (sun .start)) (is-moon : IsSecond (moon .start)) (zone-fits : mag zone < 2 ^ 63) (year-fits : mag year < 2 ^ 63) where
   abbrev κs : Lfts 4
   κs = (κ, (κ′, (κ″, (κ‴, tt))))
 
@@ -114,11 +113,11 @@ module _ {M : Type 1} (𝓤 : URA M) (H : Heap 𝓤) (A : Atoms 𝓤) (W : Given
   abbrev s : Val
   s = sliceVal (b, o) (length ys)
 
-  abbrev a : RefT (List ℤ) × (Series × (Series × (ℤ × (RefT (List Month) × Unit {0}))))
-  a = (leap, (sun, (moon, (year, (x, tt)))))
+  abbrev a : RefT (List ℤ) × (Series × (Series × (ℤ × (ℤ × (RefT (List Month) × Unit {0})))))
+  a = (leap, (sun, (moon, (zone, (year, (x, tt))))))
 
-  abbrev vals : List Val × (List Val × (List Val × (List Val × (List Val × Unit {0}))))
-  vals = (sliced leap ∷ [], (T′.lowered sun ∷ [], (T′.lowered moon ∷ [], (num year ∷ [], (s ∷ [], tt)))))
+  abbrev vals : List Val × (List Val × (List Val × (List Val × (List Val × (List Val × Unit {0})))))
+  vals = (sliced leap ∷ [], (T′.lowered sun ∷ [], (T′.lowered moon ∷ [], (num zone ∷ [], (num year ∷ [], (s ∷ [], tt))))))
 
   abbrev Post : Val → SProp 𝓤
   Post = walkOf 𝓤 H A self.ended stayed (self.clauses 𝓤 H A mem run) .post ((κs, qs, tt, a, vals), tt)
@@ -134,27 +133,27 @@ module _ {M : Type 1} (𝓤 : URA M) (H : Heap 𝓤) (A : Atoms 𝓤) (W : Given
   Moon = SeriesOwn (namedLft 4 2 tt κs) moon
 
   -- what the callee is passed
-  abbrev args : RefT (List ℤ) × (Second × (RefT (List ℤ) × (Second × (RefT (List ℤ) × (ℤ × (RefT (List Month) × Unit {0}))))))
-  args = (leap, (sun .start, (sun .coefs, (moon .start, (moon .coefs, (year, (x, tt)))))))
+  abbrev args : RefT (List ℤ) × (Second × (RefT (List ℤ) × (Second × (RefT (List ℤ) × (ℤ × (ℤ × (RefT (List Month) × Unit {0})))))))
+  args = (leap, (sun .start, (sun .coefs, (moon .start, (moon .coefs, (zone, (year, (x, tt))))))))
 
   abbrev passed : Vals callee.signature κs
-  passed = (sliced leap ∷ [], (second-val (sun .start) ∷ [], (sliced (sun .coefs) ∷ [], (second-val (moon .start) ∷ [], (sliced (moon .coefs) ∷ [], (num year ∷ [], (s ∷ [], tt)))))))
+  passed = (sliced leap ∷ [], (second-val (sun .start) ∷ [], (sliced (sun .coefs) ∷ [], (second-val (moon .start) ∷ [], (sliced (moon .coefs) ∷ [], (num zone ∷ [], (num year ∷ [], (s ∷ [], tt))))))))
 
   abbrev to : Callee 𝓤 H A mem run .Ghost
   to = ((κs, qs, tt, args, passed), tt)
 
   asked : ent 𝓤 (onEntry 𝓤 H A callee.signature κs qs args passed) (Callee 𝓤 H A mem run .pre to)
-  asked = qed W ((‵ (flft κ q) ⊛ ‵ (flft κ′ q′) ⊛ ‵ (flft κ″ q″) ⊛ ‵ (flft κ‴ q‴) ⊛ ‵ ftrue) ∷ ‵ (owns (ShrSlice (named 0) κ i64 ∷ N.the-row ∷ ShrSlice (named 1) κ′ i64 ∷ N.the-row ∷ ShrSlice (named 2) κ″ i64 ∷ i64 ∷ MutSlice (named 3) κ‴ O.the-row ∷ []) args passed) ∷ []) ∵ join ! $ frame ! $ done !
+  asked = qed W ((‵ (flft κ q) ⊛ ‵ (flft κ′ q′) ⊛ ‵ (flft κ″ q″) ⊛ ‵ (flft κ‴ q‴) ⊛ ‵ ftrue) ∷ ‵ (owns (ShrSlice (named 0) κ i64 ∷ N.the-row ∷ ShrSlice (named 1) κ′ i64 ∷ N.the-row ∷ ShrSlice (named 2) κ″ i64 ∷ i64 ∷ i64 ∷ MutSlice (named 3) κ‴ O.the-row ∷ []) args passed) ∷ []) ∵ join ! $ frame ! $ done !
 
   -- what the parameters own gives what the callee asks, and is kept
   apart : ent 𝓤 (onEntry 𝓤 H A self.signature κs qs a vals) (sep 𝓤 (Callee 𝓤 H A mem run .pre to) (sep 𝓤 (sem 𝓤 H A Leap) (sep 𝓤 (sem 𝓤 H A Sun) (sem 𝓤 H A Moon))))
   apart =
-      qed W ((‵ (flft κ q) ⊛ ‵ (flft κ′ q′) ⊛ ‵ (flft κ″ q″) ⊛ ‵ (flft κ‴ q‴) ⊛ ‵ ftrue) ∷ ‵ (owns (ShrSlice (named 0) κ i64 ∷ R₁ κs ∷ R₂ κs ∷ i64 ∷ MutSlice (named 3) κ‴ O.the-row ∷ []) a vals) ∷ []) ∵
+      qed W ((‵ (flft κ q) ⊛ ‵ (flft κ′ q′) ⊛ ‵ (flft κ″ q″) ⊛ ‵ (flft κ‴ q‴) ⊛ ‵ ftrue) ∷ ‵ (owns (ShrSlice (named 0) κ i64 ∷ R₁ κs ∷ R₂ κs ∷ i64 ∷ i64 ∷ MutSlice (named 3) κ‴ O.the-row ∷ []) a vals) ∷ []) ∵
       move ! (1 ∷ []) $ fsplit ! $ use1 W (‵ Leap ⊛ ‵ Leap) (shr-slice-copy 𝓤 H A W (named 0) κ i64 .twice leap (sliced leap ∷ [])) $ split ! $
       move ! (2 ∷ []) $ fsplit ! $ use1 W (‵ (SliceOwn (namedLft 4 1 tt κs) (sun .coefs)) ⊛ ‵ Sun) (coefs-out 𝓤 H A W (namedLft 4 1 tt κs) sun) $ split ! $
-      move ! (2 ∷ []) $ fsplit ! $ use1 W (‵ (SliceOwn (namedLft 4 2 tt κs) (moon .coefs)) ⊛ ‵ Moon) (coefs-out 𝓤 H A W (namedLft 4 2 tt κs) moon) $ split ! $ move ! (2 ∷ []) $ fsplit ! $ drop ! $
+      move ! (2 ∷ []) $ fsplit ! $ use1 W (‵ (SliceOwn (namedLft 4 2 tt κs) (moon .coefs)) ⊛ ‵ Moon) (coefs-out 𝓤 H A W (namedLft 4 2 tt κs) moon) $ split ! $ move ! (2 ∷ []) $ fsplit ! $ drop ! $ fsplit ! $ drop ! $
       -- [the list's; the Moon's coefficients'; Moon; the Sun's coefficients'; Sun; Leap; Leap; the tokens]
-      use0 W (‵ (i64 .own year (num year ∷ []))) (has-i64 𝓤 H A W year year-fits) $ fjoin ! $ move ! (1 ∷ 0 ∷ []) $ fjoin ! $
+      use0 W (‵ (i64 .own year (num year ∷ []))) (has-i64 𝓤 H A W year year-fits) $ fjoin ! $ use0 W (‵ (i64 .own zone (num zone ∷ []))) (has-i64 𝓤 H A W zone zone-fits) $ fjoin ! $ move ! (1 ∷ 0 ∷ []) $ fjoin ! $
       use0 W (‵ (N.the-row .own (moon .start) (second-val (moon .start) ∷ []))) (has-second 𝓤 H A W (moon .start) is-moon) $ fjoin ! $ move ! (2 ∷ 0 ∷ []) $ fjoin ! $
       use0 W (‵ (N.the-row .own (sun .start) (second-val (sun .start) ∷ []))) (has-second 𝓤 H A W (sun .start) is-sun) $ fjoin ! $ move ! (3 ∷ 0 ∷ []) $ fjoin ! $
       -- [what the callee's parameters own; Moon; Sun; Leap; the tokens]
@@ -162,7 +161,7 @@ module _ {M : Type 1} (𝓤 : URA M) (H : Heap 𝓤) (A : Atoms 𝓤) (W : Given
 
   -- what the callee promises, over what it is passed
   abbrev found : Verdict Sui
-  found = suiFor (inputs (now leap) (sun .start .0) (now (sun .coefs)) (moon .start .0) (now (moon .coefs))) utc8 year
+  found = suiFor (inputs (now leap) (sun .start .0) (now (sun .coefs)) (moon .start .0) (now (moon .coefs))) zone year
 
   abbrev Answers : MonthsAnswer → Type 0
   Answers r = paperMonths r ≡ recordsCounted (recordsInto found (length ys))
@@ -174,62 +173,62 @@ module _ {M : Type 1} (𝓤 : URA M) (H : Heap 𝓤) (A : Atoms 𝓤) (W : Given
       → ent 𝓤 (⋆ 𝓤 H A ((‵ (flft κ q) ⊛ ‵ (flft κ′ q′) ⊛ ‵ (flft κ″ q″) ⊛ ‵ (flft κ‴ q‴) ⊛ ‵ ftrue) ∷ ‵ (finally O.the-row γ zs) ∷ ‵ (S.the-row .own r (w ∷ [])) ∷ ‵ Leap ∷ ‵ Sun ∷ ‵ Moon ∷ [])) (Post w)
   exits r w zs e l =
       qed W ((‵ (flft κ q) ⊛ ‵ (flft κ′ q′) ⊛ ‵ (flft κ″ q″) ⊛ ‵ (flft κ‴ q‴) ⊛ ‵ ftrue) ∷ ‵ (finally O.the-row γ zs) ∷ ‵ (S.the-row .own r (w ∷ [])) ∷ ‵ Leap ∷ ‵ Sun ∷ ‵ Moon ∷ []) ∵
-      suffices ! _ (ends-at 𝓤 H A self.ended stayed (self.clauses 𝓤 H A mem run) W ((κs, qs, tt, a, vals), tt) w r (tt, (tt, (tt, (tt, (zs, tt))))) (tt, (tt, (tt, (tt, (l, tt)))))) $ says-both ! e $ frame ! $
+      suffices ! _ (ends-at 𝓤 H A self.ended stayed (self.clauses 𝓤 H A mem run) W ((κs, qs, tt, a, vals), tt) w r (tt, (tt, (tt, (tt, (tt, (zs, tt)))))) (tt, (tt, (tt, (tt, (tt, (l, tt))))))) $ says-both ! e $ frame ! $
       -- [the last list; the result; Leap; Sun; Moon]
-      nothing ! $ move ! (1 ∷ 0 ∷ []) $ fjoin ! $ use0 W (‵ (i64 .own year (num year ∷ []))) (has-i64 𝓤 H A W year year-fits) $ fjoin ! $
+      nothing ! $ move ! (1 ∷ 0 ∷ []) $ fjoin ! $ use0 W (‵ (i64 .own year (num year ∷ []))) (has-i64 𝓤 H A W year year-fits) $ fjoin ! $ use0 W (‵ (i64 .own zone (num zone ∷ []))) (has-i64 𝓤 H A W zone zone-fits) $ fjoin ! $
       move ! (4 ∷ 0 ∷ []) $ fjoin ! $ move ! (3 ∷ 0 ∷ []) $ fjoin ! $ move ! (2 ∷ 0 ∷ []) $ fjoin ! $ frame ! $ done !
 
   module _ (C : Calls 𝓤 H) (Λ : Loops 𝓤 H) (fm : FmC 𝓤 H (W .laws) C) (known : Triple 𝓤 (C #callee) (Callee 𝓤 H A mem run)) where
     walk : Is (ShrSlice (named 0) κ i64) leap (sliced leap ∷ []) → Holds (hasTy (T′.mir (named 1)) (T′.lowered sun)) × WT (T′.lowered sun) → Holds (hasTy (T′.mir (named 2)) (T′.lowered moon)) × WT (T′.lowered moon) → Room O.the-row (length ys)
-        → ent 𝓤 (onEntry 𝓤 H A self.signature κs qs a vals) (WpFn 𝓤 H C Λ code.function (sliced leap ∷ T′.lowered sun ∷ T′.lowered moon ∷ num year ∷ s ∷ []) Post)
+        → ent 𝓤 (onEntry 𝓤 H A self.signature κs qs a vals) (WpFn 𝓤 H C Λ code.function (sliced leap ∷ T′.lowered sun ∷ T′.lowered moon ∷ num zone ∷ num year ∷ s ∷ []) Post)
     walk is-leap w-sun w-moon room =
-        qed W (raw (onEntry 𝓤 H A self.signature κs qs a vals) ∷ []) ∵ enter ! C Λ code.function (sliced leap ∷ T′.lowered sun ∷ T′.lowered moon ∷ num year ∷ s ∷ []) _ $
-        alloc1 ! (λ l₀. alloc1 ! (λ l₁. alloc1 ! (λ l₂. alloc1 ! (λ l₃. alloc1 ! (λ l₄. alloc1 ! (λ l₅. alloc1 ! (λ l₆. alloc1 ! (λ l₇. alloc1 ! (λ l₈. alloc1 ! (λ l₉. alloc1 ! (λ l₁₀. alloc1 ! (λ l₁₁. alloc0 ! $ params1 ! $
-        pass1 ! (init ! 20 refl (shr-slice-lawful 𝓤 H A W (named 0) κ i64 .typed leap (sliced leap ∷ []) is-leap .0)) $ pass1 ! (init ! 18 refl w-sun) $ pass1 ! (init ! 16 refl w-moon) $
-        pass1 ! (init ! 14 refl (tt, ofZ-fits w64 year (record { sfits = year-fits }))) $ pass1 ! (init ! 12 refl (tt, (tt, (record { fits = room .0 }, tt)))) $ pass0 ! $
+        qed W (raw (onEntry 𝓤 H A self.signature κs qs a vals) ∷ []) ∵ enter ! C Λ code.function (sliced leap ∷ T′.lowered sun ∷ T′.lowered moon ∷ num zone ∷ num year ∷ s ∷ []) _ $
+        alloc1 ! (λ l₀. alloc1 ! (λ l₁. alloc1 ! (λ l₂. alloc1 ! (λ l₃. alloc1 ! (λ l₄. alloc1 ! (λ l₅. alloc1 ! (λ l₆. alloc1 ! (λ l₇. alloc1 ! (λ l₈. alloc1 ! (λ l₉. alloc1 ! (λ l₁₀. alloc1 ! (λ l₁₁. alloc1 ! (λ l₁₂. alloc0 ! $ params1 ! $
+        pass1 ! (init ! 22 refl (shr-slice-lawful 𝓤 H A W (named 0) κ i64 .typed leap (sliced leap ∷ []) is-leap .0)) $ pass1 ! (init ! 20 refl w-sun) $ pass1 ! (init ! 18 refl w-moon) $
+        pass1 ! (init ! 16 refl (tt, ofZ-fits w64 zone (record { sfits = zone-fits }))) $ pass1 ! (init ! 14 refl (tt, ofZ-fits w64 year (record { sfits = year-fits }))) $ pass1 ! (init ! 12 refl (tt, (tt, (record { fits = room .0 }, tt)))) $ pass0 ! $
         -- the Sun is taken apart, then the Moon
-        assigns ! (of-opd ! (load ! (from ! (fld ! refl (stop !))) (look-in ! 18 (sub ! 0 refl (whole !))))) (from ! (stop !)) (init ! 10 refl (tt, w-sun .1 .0)) $
-        assigns ! (of-opd ! (load ! (from ! (fld ! refl (stop !))) (look-in ! 18 (sub ! 1 refl (whole !))))) (from ! (stop !)) (init ! 8 refl (tt, w-sun .1 .1 .0)) $
-        assigns ! (of-opd ! (load ! (from ! (fld ! refl (stop !))) (look-in ! 16 (sub ! 0 refl (whole !))))) (from ! (stop !)) (init ! 6 refl (tt, w-moon .1 .0)) $
-        assigns ! (of-opd ! (load ! (from ! (fld ! refl (stop !))) (look-in ! 16 (sub ! 1 refl (whole !))))) (from ! (stop !)) (init ! 4 refl (tt, w-moon .1 .1 .0)) $
+        assigns ! (of-opd ! (load ! (from ! (fld ! refl (stop !))) (look-in ! 20 (sub ! 0 refl (whole !))))) (from ! (stop !)) (init ! 10 refl (tt, w-sun .1 .0)) $
+        assigns ! (of-opd ! (load ! (from ! (fld ! refl (stop !))) (look-in ! 20 (sub ! 1 refl (whole !))))) (from ! (stop !)) (init ! 8 refl (tt, w-sun .1 .1 .0)) $
+        assigns ! (of-opd ! (load ! (from ! (fld ! refl (stop !))) (look-in ! 18 (sub ! 0 refl (whole !))))) (from ! (stop !)) (init ! 6 refl (tt, w-moon .1 .0)) $
+        assigns ! (of-opd ! (load ! (from ! (fld ! refl (stop !))) (look-in ! 18 (sub ! 1 refl (whole !))))) (from ! (stop !)) (init ! 4 refl (tt, w-moon .1 .1 .0)) $
         -- the `&mut` is lent on: its pointer, and then its count
         assigns ! (addr ! (from ! (fld ! refl (hop ! (look-in ! 12 (sub ! 0 refl (whole !))) (stop !))))) (from ! (stop !)) (init ! 2 refl (tt, tt)) $
         assigns ! (agg ! (and-then ! (load ! (from ! (stop !)) (look ! 2 refl)) (and-then ! (load ! (from ! (fld ! refl (stop !))) (look-in ! 12 (sub ! 1 refl (whole !)))) (no-more !)))) (from ! (stop !)) (init ! 0 refl (tt, (tt, (record { fits = room .0 }, tt)))) $
-        move ! (24 ∷ []) $ use1 W (raw (Callee 𝓤 H A mem run .pre to) ⊛ ‵ Leap ⊛ ‵ Sun ⊛ ‵ Moon) apart $ split ! $
-        -- [what the callee asks; what the parameters own; _11; …; room for _0; …]
+        move ! (26 ∷ []) $ use1 W (raw (Callee 𝓤 H A mem run .pre to) ⊛ ‵ Leap ⊛ ‵ Sun ⊛ ‵ Moon) apart $ split ! $
+        -- [what the callee asks; what the parameters own; _12; …; room for _0; …]
         calls-at ! fm (Callee 𝓤 H A mem run) known to
-        (and-then ! (load ! (from ! (stop !)) (look ! 22 refl)) (and-then ! (load ! (from ! (stop !)) (look ! 12 refl)) (and-then ! (load ! (from ! (stop !)) (look ! 10 refl)) (and-then ! (load ! (from ! (stop !)) (look ! 8 refl))
-        (and-then ! (load ! (from ! (stop !)) (look ! 6 refl)) (and-then ! (load ! (from ! (stop !)) (look ! 16 refl)) (and-then ! (load ! (from ! (stop !)) (look ! 2 refl)) (no-more !)))))))) (λ w.
+        (and-then ! (load ! (from ! (stop !)) (look ! 24 refl)) (and-then ! (load ! (from ! (stop !)) (look ! 12 refl)) (and-then ! (load ! (from ! (stop !)) (look ! 10 refl)) (and-then ! (load ! (from ! (stop !)) (look ! 8 refl))
+        (and-then ! (load ! (from ! (stop !)) (look ! 6 refl)) (and-then ! (load ! (from ! (stop !)) (look ! 18 refl)) (and-then ! (load ! (from ! (stop !)) (look ! 16 refl)) (and-then ! (load ! (from ! (stop !)) (look ! 2 refl)) (no-more !))))))))) (λ w.
         use1 W (later (some (λ (r : MonthsAnswer). ((‵ (flft κ q) ⊛ ‵ (flft κ′ q′) ⊛ ‵ (flft κ″ q″) ⊛ ‵ (flft κ‴ q‴) ⊛ ‵ ftrue) ⊛ ‵ (S.the-row .own r (w ∷ []))) ⊛ raw (ensured 𝓤 H A callee.ended (callee.clauses 𝓤 H A mem run) κs args tt r)))) (id⊢ 𝓤 _) $ await ! tt $ pick ! (λ r.
         -- what the callee ensures, at some last list
-        split ! $ move ! (1 ∷ []) $ use1 W (some (λ (zs : Unit {0} × (Unit {0} × (Unit {0} × (Unit {0} × (Unit {0} × (Unit {0} × (List Month × Unit {0}))))))). ‵ (lasts callee.ended κs args zs) ⊛ (raw (fact 𝓤 (Answers r)) ⊛ raw (fact 𝓤 (Holding (zs .1 .1 .1 .1 .1 .1 .0)))))) (id⊢ 𝓤 _) $ pick ! (λ zs.
-        split ! $ move ! (1 ∷ []) $ split ! $ heard ! (Answers r) (λ e. heard ! (Holding (zs .1 .1 .1 .1 .1 .1 .0)) (λ f.
-        fsplit ! $ drop ! $ fsplit ! $ drop ! $ fsplit ! $ drop ! $ fsplit ! $ drop ! $ fsplit ! $ drop ! $ fsplit ! $ drop ! $ fsplit ! $ move ! (1 ∷ []) $ drop ! $ fsplit ! $ move ! (1 ∷ []) $ feqL ! (λ l.
-        -- [the last list; the tokens and the result; what the parameters own; _11; …]
+        split ! $ move ! (1 ∷ []) $ use1 W (some (λ (zs : Unit {0} × (Unit {0} × (Unit {0} × (Unit {0} × (Unit {0} × (Unit {0} × (Unit {0} × (List Month × Unit {0})))))))). ‵ (lasts callee.ended κs args zs) ⊛ (raw (fact 𝓤 (Answers r)) ⊛ raw (fact 𝓤 (Holding (zs .1 .1 .1 .1 .1 .1 .1 .0)))))) (id⊢ 𝓤 _) $ pick ! (λ zs.
+        split ! $ move ! (1 ∷ []) $ split ! $ heard ! (Answers r) (λ e. heard ! (Holding (zs .1 .1 .1 .1 .1 .1 .1 .0)) (λ f.
+        fsplit ! $ drop ! $ fsplit ! $ drop ! $ fsplit ! $ drop ! $ fsplit ! $ drop ! $ fsplit ! $ drop ! $ fsplit ! $ drop ! $ fsplit ! $ drop ! $ fsplit ! $ move ! (1 ∷ []) $ drop ! $ fsplit ! $ move ! (1 ∷ []) $ feqL ! (λ l.
+        -- [the last list; the tokens and the result; what the parameters own; _12; …]
         move ! (1 ∷ []) $ split ! $ move ! (1 ∷ []) $ peeks ! S.the-row (Is S.the-row) (shows 𝓤 H A S.the-row) r (w ∷ []) (λ is.
-        -- [the result; the tokens; the last list; what the parameters own; _11; …]
-        land ! (from ! (stop !)) (init ! 26 refl (EL.lawful S.the-type S′.the-laws 𝓤 H A W tt .typed r _ is .0)) $
-        returns ! (look ! 26 refl) $ forget ! 4 refl $ forget ! 6 refl $ forget ! 8 refl $ forget ! 10 refl $ forget ! 12 refl $ forget ! 14 refl $ forget ! 16 refl $ forget ! 18 refl $ forget ! 20 refl $ forget ! 22 refl $ forget ! 24 refl $ forget ! 26 refl $
-        move ! (26 ∷ 27 ∷ []) $ free1 ! $ move ! (24 ∷ 25 ∷ []) $ free1 ! $ move ! (22 ∷ 23 ∷ []) $ free1 ! $ move ! (20 ∷ 21 ∷ []) $ free1 ! $ move ! (18 ∷ 19 ∷ []) $ free1 ! $ move ! (16 ∷ 17 ∷ []) $ free1 ! $
+        -- [the result; the tokens; the last list; what the parameters own; _12; …]
+        land ! (from ! (stop !)) (init ! 28 refl (EL.lawful S.the-type S′.the-laws 𝓤 H A W tt .typed r _ is .0)) $
+        returns ! (look ! 28 refl) $ forget ! 4 refl $ forget ! 6 refl $ forget ! 8 refl $ forget ! 10 refl $ forget ! 12 refl $ forget ! 14 refl $ forget ! 16 refl $ forget ! 18 refl $ forget ! 20 refl $ forget ! 22 refl $ forget ! 24 refl $ forget ! 26 refl $ forget ! 28 refl $
+        move ! (28 ∷ 29 ∷ []) $ free1 ! $ move ! (26 ∷ 27 ∷ []) $ free1 ! $ move ! (24 ∷ 25 ∷ []) $ free1 ! $ move ! (22 ∷ 23 ∷ []) $ free1 ! $ move ! (20 ∷ 21 ∷ []) $ free1 ! $ move ! (18 ∷ 19 ∷ []) $ free1 ! $ move ! (16 ∷ 17 ∷ []) $ free1 ! $
         move ! (14 ∷ 15 ∷ []) $ free1 ! $ move ! (12 ∷ 13 ∷ []) $ free1 ! $ move ! (10 ∷ 11 ∷ []) $ free1 ! $ move ! (8 ∷ 9 ∷ []) $ free1 ! $ move ! (6 ∷ 7 ∷ []) $ free1 ! $ move ! (4 ∷ 5 ∷ []) $ free1 ! $ free0 ! $
-        keep ! (1 ∷ 2 ∷ 0 ∷ 3 ∷ []) $ by ! (exits r w (zs .1 .1 .1 .1 .1 .1 .0) (e, f) l))))))))))))))))))))
+        keep ! (1 ∷ 2 ∷ 0 ∷ 3 ∷ []) $ by ! (exits r w (zs .1 .1 .1 .1 .1 .1 .1 .0) (e, f) l)))))))))))))))))))))
 
 module _ {M : Type 1} (𝓤 : URA M) (H : Heap 𝓤) (A : Atoms 𝓤) (W : Given 𝓤 H A) (mem : Memory → SProp 𝓤) (run : Routine → Fun 𝓤) where
   self-walks : (C : Calls 𝓤 H) (Λ : Loops 𝓤 H) → FmC 𝓤 H (W .laws) C → Triple 𝓤 (C #callee) (Callee 𝓤 H A mem run)
       → Walks 𝓤 H A self.ended stayed (WpFn 𝓤 H C Λ code.function) (self.clauses 𝓤 H A mem run)
   self-walks C Λ fm known = walked 𝓤 H A self.ended stayed (self.clauses 𝓤 H A mem run) (WpFn 𝓤 H C Λ code.function)
-      (λ κs. (slice-vals, (LL.vals (D₁ κs) (L₁ κs), (LL.vals (D₂ κs) (L₂ κs), (sint-vals w64, (slice-vals, tt))))))
-      (λ κs. (shr-slice-tells (named 0) (κs .0) i64, (LL.tells (D₁ κs) (L₁ κs), (LL.tells (D₂ κs) (L₂ κs), (sint-tells w64, (mut-slice-tells (named 3) (κs .1 .1 .1 .0) O.the-row, tt))))))
-      (λ κs qs bounds a g are. via 𝓤 _ (fst∗ 𝓤 _ (emp 𝓤)) (let out = a .1 .1 .1 .1 .0 in walk 𝓤 H A W mem run (κs .0) (κs .1 .0) (κs .1 .1 .0) (κs .1 .1 .1 .0) (qs .0) (qs .1 .0) (qs .1 .1 .0) (qs .1 .1 .1 .0)
-      (a .0) (a .1 .0) (a .1 .1 .0) (a .1 .1 .1 .0) (out .ptr .0) (out .ptr .1) (out .name) (out .now)
-      (start-is (namedLft 4 1 tt κs) (a .1 .0) (are .1 .0)) (start-is (namedLft 4 2 tt κs) (a .1 .1 .0) (are .1 .1 .0)) (are .1 .1 .1 .0 .1) C Λ fm known
-      (are .0) (LL.lawful (D₁ κs) (L₁ κs) 𝓤 H A W .typed (a .1 .0) _ (are .1 .0) .0) (LL.lawful (D₂ κs) (L₂ κs) 𝓤 H A W .typed (a .1 .1 .0) _ (are .1 .1 .0) .0) (are .1 .1 .1 .1 .0 .0 .1)))
+      (λ κs. (slice-vals, (LL.vals (D₁ κs) (L₁ κs), (LL.vals (D₂ κs) (L₂ κs), (sint-vals w64, (sint-vals w64, (slice-vals, tt)))))))
+      (λ κs. (shr-slice-tells (named 0) (κs .0) i64, (LL.tells (D₁ κs) (L₁ κs), (LL.tells (D₂ κs) (L₂ κs), (sint-tells w64, (sint-tells w64, (mut-slice-tells (named 3) (κs .1 .1 .1 .0) O.the-row, tt)))))))
+      (λ κs qs bounds a g are. via 𝓤 _ (fst∗ 𝓤 _ (emp 𝓤)) (let out = a .1 .1 .1 .1 .1 .0 in walk 𝓤 H A W mem run (κs .0) (κs .1 .0) (κs .1 .1 .0) (κs .1 .1 .1 .0) (qs .0) (qs .1 .0) (qs .1 .1 .0) (qs .1 .1 .1 .0)
+      (a .0) (a .1 .0) (a .1 .1 .0) (a .1 .1 .1 .0) (a .1 .1 .1 .1 .0) (out .ptr .0) (out .ptr .1) (out .name) (out .now)
+      (start-is (namedLft 4 1 tt κs) (a .1 .0) (are .1 .0)) (start-is (namedLft 4 2 tt κs) (a .1 .1 .0) (are .1 .1 .0)) (are .1 .1 .1 .0 .1) (are .1 .1 .1 .1 .0 .1) C Λ fm known
+      (are .0) (LL.lawful (D₁ κs) (L₁ κs) 𝓤 H A W .typed (a .1 .0) _ (are .1 .0) .0) (LL.lawful (D₂ κs) (L₂ κs) 𝓤 H A W .typed (a .1 .1 .0) _ (are .1 .1 .0) .0) (are .1 .1 .1 .1 .1 .0 .0 .1)))
 
 self-meets : {M : Type 1} (𝓤 : URA M) (H : Heap 𝓤) (A : Atoms 𝓤) (W : Given 𝓤 H A) (mem : Memory → SProp 𝓤) (run : Routine → Fun 𝓤) (𝓣 : Tables 𝓤 H)
     → Triple 𝓤 (𝓣 .C #callee) (Callee 𝓤 H A mem run)
     → Meets 𝓤 H A self.signature (WpFn 𝓤 H (𝓣 .C) (𝓣 .Λ) code.function) (self.spec 𝓤 H A mem run)
 self-meets 𝓤 H A W mem run 𝓣 known = walk-meets 𝓤 H A self.ended stayed W
-    (goes-none-slice 𝓤 H A W 4 (0 ∷ []) tt (plain (λ _. i64)) yes, (goes-none 𝓤 H A W 4 R₁ yes (λ κs x f. refl), (goes-none 𝓤 H A W 4 R₂ yes (λ κs x f. refl), (goes-none 𝓤 H A W 4 (λ _. i64) yes (λ κs x f. refl), (goes-gave-slice 𝓤 H A W 4 3 tt (plain (λ _. O.the-row)), tt)))))
+    (goes-none-slice 𝓤 H A W 4 (0 ∷ []) tt (plain (λ _. i64)) yes, (goes-none 𝓤 H A W 4 R₁ yes (λ κs x f. refl), (goes-none 𝓤 H A W 4 R₂ yes (λ κs x f. refl), (goes-none 𝓤 H A W 4 (λ _. i64) yes (λ κs x f. refl), (goes-none 𝓤 H A W 4 (λ _. i64) yes (λ κs x f. refl), (goes-gave-slice 𝓤 H A W 4 3 tt (plain (λ _. O.the-row)), tt))))))
     (self.clauses 𝓤 H A mem run) (WpFn 𝓤 H (𝓣 .C) (𝓣 .Λ) code.function) (WpFn-mono 𝓤 H (W .laws) 𝓣 code.function)
     (self-walks 𝓤 H A W mem run (𝓣 .C) (𝓣 .Λ) (fmOf 𝓤 H (W .laws) 𝓣) known)
 

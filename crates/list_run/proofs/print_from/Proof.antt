@@ -6,6 +6,7 @@ use lib.Seq.{length-take-le}
 use mathlib.Core.List.{List}
 use mathlib.Core.Path.{_≡_, sym}
 use native.Mathlib.Omega.{arith}
+use Rattle.clock.specs.Clock.{utc8}
 use Rattle.listed.specs.Listing.{listing}
 use Rattle.listing.specs.Parts.{partAnswer, partHeld}
 use Rattle.listing.specs.declared.Part.{Part}
@@ -26,10 +27,10 @@ inside : (lines : List (List ℕ)) (from : ℕ) (room : List ℕ) {r : Part} {la
 inside lines from room p q = rw (p, q, length-append) (omega arith)
 
 array-share-prefix-out : tie.Need-array-share-prefix-out
-array-share-prefix-out c = inside (listing (c .before .before .before .before .before .args .input .now)) (c .before .before .before .before .before .args .from) (c .before .before .before .large-buffer .result) (c .before .list-part .ensures .0) (c .before .list-part .ensures .1)
+array-share-prefix-out c = inside (listing (c .before .before .before .before .before .args .input .now) utc8) (c .before .before .before .before .before .args .from) (c .before .before .before .large-buffer .result) (c .before .list-part .ensures .0) (c .before .list-part .ensures .1)
 
 slice-aggregate-write-all : tie.Need-slice-aggregate-write-all
-slice-aggregate-write-all c = sym (length-take-le _ _ (inside (listing (c .before .before .before .before .before .before .args .input .now)) (c .before .before .before .before .before .before .args .from) (c .before .before .before .before .large-buffer .result) (c .before .before .list-part .ensures .0) (c .before .before .list-part .ensures .1)))
+slice-aggregate-write-all c = sym (length-take-le _ _ (inside (listing (c .before .before .before .before .before .before .args .input .now) utc8) (c .before .before .before .before .before .before .args .from) (c .before .before .before .before .large-buffer .result) (c .before .before .list-part .ensures .0) (c .before .before .list-part .ensures .1)))
 
 write-all-requires : tie.Need-write-all-requires
 write-all-requires c κs = search needs

@@ -3,6 +3,7 @@ use mathlib.Core.Path.{_≡_, refl, sym, ap, _∙_}
 use mathlib.Core.List.{List, [], _∷_, map}
 use Prim.Native.Nat.{ℕ, zero, suc, _+_, _<_}
 use native.Mathlib.Omega.{arith}
+use lib.IntN.{ℤ}
 use lib.ListN.{length, getD, length-append, length-map, List·getD-append}
 use lib.Seq.{getD-append-add}
 use Rattle.series.specs.declared.Body.the-variants.{Sun, Moon}
@@ -17,17 +18,17 @@ nth-mapped f [] k h = absurd (omega arith)
 nth-mapped f (m ∷ marks) zero h = refl
 nth-mapped f (m ∷ marks) (suc k) h = nth-mapped f marks k (omega arith)
 
-module _ (i : Inputs) where
-  pub lines-count : length (linesOf i) ≡ length (listedMarks (sun i)) + length (listedMarks (moon i))
+module _ (i : Inputs) (zone : ℤ) where
+  pub lines-count : length (linesOf i zone) ≡ length (listedMarks (sun i)) + length (listedMarks (moon i))
   lines-count = simp (length-append, length-map)
 
-  pub sun-line : (k : ℕ) → k < length (listedMarks (sun i)) → getD (linesOf i) k [] ≡ lineOf Sun (i .leap) (getD (listedMarks (sun i)) k noMark)
+  pub sun-line : (k : ℕ) → k < length (listedMarks (sun i)) → getD (linesOf i zone) k [] ≡ lineOf Sun (i .leap) zone (getD (listedMarks (sun i)) k noMark)
   sun-line k h =
-      List·getD-append (map (lineOf Sun (i .leap)) (listedMarks (sun i))) (map (lineOf Moon (i .leap)) (listedMarks (moon i))) [] k (rw length-map h)
-      ∙ nth-mapped (lineOf Sun (i .leap)) (listedMarks (sun i)) k h
+      List·getD-append (map (lineOf Sun (i .leap) zone) (listedMarks (sun i))) (map (lineOf Moon (i .leap) zone) (listedMarks (moon i))) [] k (rw length-map h)
+      ∙ nth-mapped (lineOf Sun (i .leap) zone) (listedMarks (sun i)) k h
 
-  pub moon-line : (k : ℕ) → k < length (listedMarks (moon i)) → getD (linesOf i) (length (listedMarks (sun i)) + k) [] ≡ lineOf Moon (i .leap) (getD (listedMarks (moon i)) k noMark)
+  pub moon-line : (k : ℕ) → k < length (listedMarks (moon i)) → getD (linesOf i zone) (length (listedMarks (sun i)) + k) [] ≡ lineOf Moon (i .leap) zone (getD (listedMarks (moon i)) k noMark)
   moon-line k h =
-      ap (λ (n : ℕ). getD (linesOf i) (n + k) []) (sym (length-map (listedMarks (sun i)) (lineOf Sun (i .leap))))
-      ∙ getD-append-add (map (lineOf Sun (i .leap)) (listedMarks (sun i))) (map (lineOf Moon (i .leap)) (listedMarks (moon i))) k []
-      ∙ nth-mapped (lineOf Moon (i .leap)) (listedMarks (moon i)) k h
+      ap (λ (n : ℕ). getD (linesOf i zone) (n + k) []) (sym (length-map (listedMarks (sun i)) (lineOf Sun (i .leap) zone)))
+      ∙ getD-append-add (map (lineOf Sun (i .leap) zone) (listedMarks (sun i))) (map (lineOf Moon (i .leap) zone) (listedMarks (moon i))) k []
+      ∙ nth-mapped (lineOf Moon (i .leap) zone) (listedMarks (moon i)) k h

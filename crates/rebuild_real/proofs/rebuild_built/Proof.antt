@@ -31,7 +31,7 @@ array-share-prefix-file c =
     let told = c .before in
     let built = told .before .before .before in
     let a = built .before .before .before .args in
-    written-inside (builtFromTaken (a .oldwords .now) (a .bytes) _) _ (sym (ap paperWritten (told .built2 .given .1)) ∙ built .build-taken .ensures .0) (built .build-taken .ensures .1)
+    written-inside (builtFromTaken (a .oldwords .now) (a .bytes) _ _) _ (sym (ap paperWritten (told .built2 .given .1)) ∙ built .build-taken .ensures .0) (built .build-taken .ensures .1)
 
 slice-aggregate-rebuild-all : tie.Need-slice-aggregate-rebuild-all
 slice-aggregate-rebuild-all c = sym (length-take-le _ _ (array-share-prefix-file (c .before)))

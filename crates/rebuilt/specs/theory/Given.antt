@@ -10,12 +10,11 @@ use lib.Dec.{eqb, ltb}
 use lib.IntN.{ℤ, pos, natAbs, _+ℤ_}
 use lib.ListN.{length}
 use Rattle.whole.specs.Laws.{abs-of-nonneg}
-use Rattle.whole.specs.Ranges.{Within}
 use Rattle.whole.specs.Solver.{⇑, ring}
 use Rattle.whole.specs.Tests.{inRange}
-use Rattle.refusals.specs.Verdict.{Verdict, answered, refused, refuseWhen, _before_, _then_, then-answered, test-answered, answers-apart, test-passes}
-use Rattle.inputs.specs.Inputs.{Inputs, InputsAccepted}
-use Rattle.sui.specs.theory.Answered.{inputs-answered}
+use Rattle.refusals.specs.Verdict.{Verdict, answered, refused, accepted, refuseWhen, _before_, _then_, then-answered, test-answered, before-accepted, before-answered, answers-apart, test-passes}
+use Rattle.clock.specs.Answers.{zoneJudged}
+use Rattle.inputs.specs.Inputs.{Inputs, inputsJudged, judgedIn}
 use Rattle.words.specs.Words.{pattern4}
 use Rattle.content.specs.Content.{Content, lawful, yearAt}
 use Rattle.almanac.specs.Layout.{bytesOf, suisAt, monthsAt, endAt, countsOf, contentAt, contentOf, fileOf}
@@ -117,9 +116,13 @@ module _ (built : ℤ → ℤ → Verdict (List ℕ)) (file : List ℕ) where
 
 -- ---- the years of what a build gives
 module _ (i : Inputs) (zone first count : ℤ) (room : ℕ) {file : List ℕ} (e : bytesBuilt i zone first count room ≡ answered file) where
-  judged : InputsAccepted i × (refuseWhen (not (inRange (pos 1) (pos 128) count)) 8 before (contentBuilt i zone first (natAbs count) then λ c. bytesInto c room) ≡ answered file)
+  judged : (judgedIn i zone ≡ accepted) × (refuseWhen (not (inRange (pos 1) (pos 128) count)) 8 before (contentBuilt i zone first (natAbs count) then λ c. bytesInto c room) ≡ answered file)
   unfolding builtBy bytesBy
-  judged = inputs-answered i (refuseWhen (not (inRange (pos 1) (pos 128) count)) 8 before (contentBuilt i zone first (natAbs count) then λ c. bytesInto c room)) e
+  judged = before-answered (judgedIn i zone) (refuseWhen (not (inRange (pos 1) (pos 128) count)) 8 before (contentBuilt i zone first (natAbs count) then λ c. bytesInto c room)) e
+
+  pub built-in-zone : zoneJudged zone ≡ accepted
+  unfolding judgedIn
+  built-in-zone = before-accepted (zoneJudged zone) (inputsJudged i) (judged .0) .0
 
   in-range : inRange (pos 1) (pos 128) count ≡ true
   in-range = not-false (inRange (pos 1) (pos 128) count) (test-answered (not (inRange (pos 1) (pos 128) count)) 8 (contentBuilt i zone first (natAbs count) then λ c. bytesInto c room) file (judged .1) .0)
@@ -127,40 +130,39 @@ module _ (i : Inputs) (zone first count : ℤ) (room : ℕ) {file : List ℕ} (e
   pub count-built : pos (natAbs count) ≡ count
   count-built = abs-of-nonneg {a = count} (count-natural count in-range)
 
-  module _ (small : Within 1000 zone) where
-    as-built : BuiltFile i zone first count file
-    as-built = built-is-read i zone first count room e small
+  as-built : BuiltFile i zone first count file
+  as-built = built-is-read i zone first count room e
 
-    years-asked : yearsIn (as-built .content) ≡ record { first = first; count = natAbs count }
-    years-asked = λ t. record { first = first-is t; count = one-sui-a-year i zone first (natAbs count) (as-built .is-content) t }
-      where
-        here : first +ℤ pos 0 ≡ first
-        here = ⇑ (first ∷ []) (search ring depth 9) refl
+  years-asked : yearsIn (as-built .content) ≡ record { first = first; count = natAbs count }
+  years-asked = λ t. record { first = first-is t; count = one-sui-a-year i zone first (natAbs count) (as-built .is-content) t }
+    where
+      here : first +ℤ pos 0 ≡ first
+      here = ⇑ (first ∷ []) (search ring depth 9) refl
 
-        first-is : yearAt (as-built .content .suis) 0 ≡ first
-        first-is = sui-of-each-year i zone first (natAbs count) (as-built .is-content) 0 (count-small count in-range .0) .year-is ∙ here
+      first-is : yearAt (as-built .content .suis) 0 ≡ first
+      first-is = sui-of-each-year i zone first (natAbs count) (as-built .is-content) 0 (count-small count in-range .0) .year-is ∙ here
 
-    -- a file that is built takes no more bytes than any file has
-    few-bytes : length file ≤ mostBytes
-    unfolding checkedFile
-    few-bytes =
-        let k = checked file (countsIn (as-built .content)) (rw (as-built .is-read)) in
-        omega (arith, k .ends, k .entries-few, k .suis-few, k .months-few)
+  -- a file that is built takes no more bytes than any file has
+  few-bytes : length file ≤ mostBytes
+  unfolding checkedFile
+  few-bytes =
+      let k = checked file (countsIn (as-built .content)) (rw (as-built .is-read)) in
+      omega (arith, k .ends, k .entries-few, k .suis-few, k .months-few)
 
-    pub room-enough : bytesBuilt i zone first count mostBytes ≡ answered file
-    unfolding builtBy bytesBy
-    room-enough =
-        let c = as-built .content in
-        rw (judged .0, in-range, as-built .is-content) (sym (test-passes 12 (answered (bytesOf c)) (le-ltb mostBytes (length (bytesOf c)) (rw (← as-built .is-written) few-bytes))) ∙ ap answered (sym (as-built .is-written)))
+  pub room-enough : bytesBuilt i zone first count mostBytes ≡ answered file
+  unfolding builtBy bytesBy
+  room-enough =
+      let c = as-built .content in
+      rw (judged .0, in-range, as-built .is-content) (sym (test-passes 12 (answered (bytesOf c)) (le-ltb mostBytes (length (bytesOf c)) (rw (← as-built .is-written) few-bytes))) ∙ ap answered (sym (as-built .is-written)))
 
 -- the build of mostBytes gives it, and so it is given, with the years that were asked for
-pub built-is-given : (i : Inputs) (zone first count : ℤ) {file : List ℕ} (e : bytesBuilt i zone first count mostBytes ≡ answered file) → Within 1000 zone → givenBy (λ first count. bytesBuilt i zone first count mostBytes) file ≡ answered (record { first = first; count = natAbs count })
-built-is-given i zone first count {file} e small =
-    let f = as-built i zone first count mostBytes e small in
+pub built-is-given : (i : Inputs) (zone first count : ℤ) {file : List ℕ} (e : bytesBuilt i zone first count mostBytes ≡ answered file) → givenBy (λ first count. bytesBuilt i zone first count mostBytes) file ≡ answered (record { first = first; count = natAbs count })
+built-is-given i zone first count {file} e =
+    let f = as-built i zone first count mostBytes e in
     given-when (λ first count. bytesBuilt i zone first count mostBytes) file
     (record {
       content = f .content;
       is-read = f .is-read;
-      years-are = years-asked i zone first count mostBytes e small;
+      years-are = years-asked i zone first count mostBytes e;
       is-built = ap (λ (n : ℤ). bytesBuilt i zone first n mostBytes) (count-built i zone first count mostBytes e) ∙ e;
     })

@@ -12,7 +12,8 @@ use lib.ListN.{length, take, drop, length-append, length-drop}
 use lib.Seq.{length-take-le, take-all}
 use Rattle.refusals.specs.Verdict.{Verdict, answered, refused, refuseWhen, answers-apart, answer-or-refusal, test-answered, _before_, _then_}
 use Rattle.refusals.specs.Lent.{writtenInto}
-use Rattle.clock.specs.Clock.{utc8}
+use Rattle.clock.specs.Clock.{isZone}
+use Rattle.clock.specs.Answers.{zoneJudged}
 use Rattle.inputs.specs.Inputs.{Inputs}
 use Rattle.layout.specs.declared.inner.Places.{Places}
 use Rattle.layout.specs.Layout.{places, wordsFrom, inputsAt}
@@ -102,18 +103,22 @@ module _ (ws : List ℤ) (bytes : ℕ) where
   inputs-found e = inputs-are ∙ (rw e)
 
 -- ---- of two inputs
-module _ (old : List ℕ) (oldws : List ℤ) (oldbytes : ℕ) (ws : List ℤ) (bytes room places : ℕ) where
-  pub old-broken : {number segment : ℕ} → placesTaken oldws oldbytes ≡ refused number segment → rebuiltFromTaken old oldws oldbytes ws bytes room places ≡ refused number segment
-  unfolding rebuiltFromTaken
-  old-broken e = rw (inputs-broken oldws oldbytes e)
+pub no-zone : (old : List ℕ) (oldws : List ℤ) (oldbytes : ℕ) (ws : List ℤ) (bytes : ℕ) (zone : ℤ) (room places : ℕ) → isZone zone ≡ false → rebuiltFromTaken old oldws oldbytes ws bytes zone room places ≡ refused 15 0
+unfolding rebuiltFromTaken zoneJudged
+no-zone old oldws oldbytes ws bytes zone room places z = rw z
 
-  pub new-broken : {p : Places} {number segment : ℕ} → placesTaken oldws oldbytes ≡ answered p → placesTaken ws bytes ≡ refused number segment → rebuiltFromTaken old oldws oldbytes ws bytes room places ≡ refused number segment
-  unfolding rebuiltFromTaken
-  new-broken e f = rw (inputs-found oldws oldbytes e, inputs-broken ws bytes f)
+module _ (old : List ℕ) (oldws : List ℤ) (oldbytes : ℕ) (ws : List ℤ) (bytes : ℕ) (zone : ℤ) (room places : ℕ) (z : isZone zone ≡ true) where
+  pub old-broken : {number segment : ℕ} → placesTaken oldws oldbytes ≡ refused number segment → rebuiltFromTaken old oldws oldbytes ws bytes zone room places ≡ refused number segment
+  unfolding rebuiltFromTaken zoneJudged
+  old-broken e = rw (z, inputs-broken oldws oldbytes e)
 
-  pub both-found : {p q : Places} → placesTaken oldws oldbytes ≡ answered p → placesTaken ws bytes ≡ answered q → rebuiltFromTaken old oldws oldbytes ws bytes room places ≡ rebuilt (inputsAt (behindYears oldws oldbytes) p) (inputsAt (behindYears ws bytes) q) utc8 old room places
-  unfolding rebuiltFromTaken
-  both-found e f = rw (inputs-found oldws oldbytes e, inputs-found ws bytes f)
+  pub new-broken : {p : Places} {number segment : ℕ} → placesTaken oldws oldbytes ≡ answered p → placesTaken ws bytes ≡ refused number segment → rebuiltFromTaken old oldws oldbytes ws bytes zone room places ≡ refused number segment
+  unfolding rebuiltFromTaken zoneJudged
+  new-broken e f = rw (z, inputs-found oldws oldbytes e, inputs-broken ws bytes f)
+
+  pub both-found : {p q : Places} → placesTaken oldws oldbytes ≡ answered p → placesTaken ws bytes ≡ answered q → rebuiltFromTaken old oldws oldbytes ws bytes zone room places ≡ rebuilt (inputsAt (behindYears oldws oldbytes) p) (inputsAt (behindYears ws bytes) q) zone old room places
+  unfolding rebuiltFromTaken zoneJudged
+  both-found e f = rw (z, inputs-found oldws oldbytes e, inputs-found ws bytes f)
 
 -- ---- what a function answers, and what it leaves in the lent places, by what is to be written
 abbrev pub Promises : Verdict NewFile → List ℕ → List ℤ → Verdict Rebuilt → List ℕ → List ℤ → Type 0
@@ -126,8 +131,8 @@ pub passing-on : {new same : Verdict NewFile} (file : List ℕ) (years : List �
 passing-on file years e p = rw e p
 
 -- the same by the same inputs
-pub by-inputs : {i i′ j j′ : Inputs} (old file : List ℕ) (years : List ℤ) {v : Verdict Rebuilt} {lastfile : List ℕ} {lastyears : List ℤ} → i ≡ i′ → j ≡ j′ → Promises (rebuilt i j utc8 old (length file) (length years)) file years v lastfile lastyears → Promises (rebuilt i′ j′ utc8 old (length file) (length years)) file years v lastfile lastyears
-by-inputs old file years e f p = passing-on file years (sym (ap₂ (λ (x y : Inputs). rebuilt x y utc8 old (length file) (length years)) e f)) p
+pub by-inputs : {i i′ j j′ : Inputs} (zone : ℤ) (old file : List ℕ) (years : List ℤ) {v : Verdict Rebuilt} {lastfile : List ℕ} {lastyears : List ℤ} → i ≡ i′ → j ≡ j′ → Promises (rebuilt i j zone old (length file) (length years)) file years v lastfile lastyears → Promises (rebuilt i′ j′ zone old (length file) (length years)) file years v lastfile lastyears
+by-inputs zone old file years e f p = passing-on file years (sym (ap₂ (λ (x y : Inputs). rebuilt x y zone old (length file) (length years)) e f)) p
 
 -- as many bytes as were written are in the file, and as many years in their list
 pub new-inside : (v : Verdict NewFile) (file : List ℕ) (years : List ℤ) {r : Rebuilt} {lastfile : List ℕ} {lastyears : List ℤ} → Promises v file years (answered r) lastfile lastyears → (r .bytes ≤ length lastfile) × (r .years ≤ length lastyears)

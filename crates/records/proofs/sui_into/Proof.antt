@@ -1,4 +1,4 @@
--- `records::sui_into` meets its contract: a walk of its MIR, by hand, with no branch. `one_sui::sui` is called on the leap table, each start with its coefficients, and the year, and what it returns goes to
+-- `records::sui_into` meets its contract: a walk of its MIR, by hand, with no branch. `one_sui::sui` is called on the leap table, each start with its coefficients, the zone and the year, and what it returns goes to
 -- `store` with the lent list. All that the proof knows of the two is that each meets its contract. The lent slices are Copy: one copy of what each owns is kept for the exit. The `&mut` isn't needed after its
 -- call, so it goes to `store` at its own lifetime, share and name (`gave-slice`). Assumes nothing.
 use mathlib.Core.Path.{_≡_, refl, ap, _∙_, subst}
@@ -45,7 +45,6 @@ use denote.Triple.Clauses.{ensured, lasts}
 use Rattle.times.specs.declared.Second.{Second}
 use Rattle.times.proofs.Second as N
 use Rattle.times.proofs.Second.Laws as N′
-use Rattle.clock.specs.Clock.{utc8}
 use Rattle.inputs.specs.Inputs.{inputs}
 use Rattle.sui.specs.Sui.{suiFor}
 use Rattle.refusals.specs.Verdict.{Verdict}
@@ -82,7 +81,7 @@ R = T.the-row
 abbrev stayed : Stays (self.ended .signature .params) (self.ended .kept)
 stayed = (
   stay-none-slice (0 ∷ []) tt (plain (λ _. i64)) yes,
-  (stay-none (λ _. N.the-row) yes, (stay-none-slice (1 ∷ []) tt (plain (λ _. i64)) yes, (stay-none (λ _. N.the-row) yes, (stay-none-slice (2 ∷ []) tt (plain (λ _. i64)) yes, (stay-none (λ _. i64) yes, (gave-slice (3 ∷ []) tt (plain (λ _. R)), tt)))))),
+  (stay-none (λ _. N.the-row) yes, (stay-none-slice (1 ∷ []) tt (plain (λ _. i64)) yes, (stay-none (λ _. N.the-row) yes, (stay-none-slice (2 ∷ []) tt (plain (λ _. i64)) yes, (stay-none (λ _. i64) yes, (stay-none (λ _. i64) yes, (gave-slice (3 ∷ []) tt (plain (λ _. R)), tt))))))),
 )
 
 module _ {M : Type 1} (𝓤 : URA M) (H : Heap 𝓤) (A : Atoms 𝓤) (mem : Memory → SProp 𝓤) (run : Routine → Fun 𝓤) where
@@ -94,7 +93,7 @@ module _ {M : Type 1} (𝓤 : URA M) (H : Heap 𝓤) (A : Atoms 𝓤) (mem : Mem
   Store = tripleOf 𝓤 H A store.signature (store.spec 𝓤 H A mem run)
 
 module _ {M : Type 1} (𝓤 : URA M) (H : Heap 𝓤) (A : Atoms 𝓤) (W : Given 𝓤 H A) (mem : Memory → SProp 𝓤) (run : Routine → Fun 𝓤) (κ κ′ κ″ κ‴ : Lft) (q q′ q″ q‴ : Share)
-    (leap : RefT (List ℤ)) (sunstart : Second) (sun : RefT (List ℤ)) (moonstart : Second) (moon : RefT (List ℤ)) (year : ℤ) (b o : ℕ) (γ : GName) (ys : List Month) (is-sun : IsSecond sunstart) (is-moon : IsSecond moonstart) (year-fits : mag year < 2 ^ 63) where
+    (leap : RefT (List ℤ)) (sunstart : Second) (sun : RefT (List ℤ)) (moonstart : Second) (moon : RefT (List ℤ)) (zone year : ℤ) (b o : ℕ) (γ : GName) (ys : List Month) (is-sun : IsSecond sunstart) (is-moon : IsSecond moonstart) (zone-fits : mag zone < 2 ^ 63) (year-fits : mag year < 2 ^ 63) where
   abbrev κs : Lfts 4
   κs = (κ, (κ′, (κ″, (κ‴, tt))))
 
@@ -115,11 +114,11 @@ module _ {M : Type 1} (𝓤 : URA M) (H : Heap 𝓤) (A : Atoms 𝓤) (W : Given
   abbrev s : Val
   s = sliceVal (b, o) (length ys)
 
-  abbrev a : RefT (List ℤ) × (Second × (RefT (List ℤ) × (Second × (RefT (List ℤ) × (ℤ × (RefT (List Month) × Unit {0}))))))
-  a = (leap, (sunstart, (sun, (moonstart, (moon, (year, (x, tt)))))))
+  abbrev a : RefT (List ℤ) × (Second × (RefT (List ℤ) × (Second × (RefT (List ℤ) × (ℤ × (ℤ × (RefT (List Month) × Unit {0})))))))
+  a = (leap, (sunstart, (sun, (moonstart, (moon, (zone, (year, (x, tt))))))))
 
-  abbrev vals : List Val × (List Val × (List Val × (List Val × (List Val × (List Val × (List Val × Unit {0}))))))
-  vals = (sliced leap ∷ [], (second-val sunstart ∷ [], (sliced sun ∷ [], (second-val moonstart ∷ [], (sliced moon ∷ [], (num year ∷ [], (s ∷ [], tt)))))))
+  abbrev vals : List Val × (List Val × (List Val × (List Val × (List Val × (List Val × (List Val × (List Val × Unit {0})))))))
+  vals = (sliced leap ∷ [], (second-val sunstart ∷ [], (sliced sun ∷ [], (second-val moonstart ∷ [], (sliced moon ∷ [], (num zone ∷ [], (num year ∷ [], (s ∷ [], tt))))))))
 
   abbrev Post : Val → SProp 𝓤
   Post = walkOf 𝓤 H A self.ended stayed (self.clauses 𝓤 H A mem run) .post ((κs, qs, tt, a, vals), tt)
@@ -138,36 +137,36 @@ module _ {M : Type 1} (𝓤 : URA M) (H : Heap 𝓤) (A : Atoms 𝓤) (W : Given
   Mut = MutSlice (named 3) κ‴ R .own x (s ∷ [])
 
   -- the call of `sui`
-  abbrev args : RefT (List ℤ) × (Second × (RefT (List ℤ) × (Second × (RefT (List ℤ) × (ℤ × Unit {0})))))
-  args = (leap, (sunstart, (sun, (moonstart, (moon, (year, tt))))))
+  abbrev args : RefT (List ℤ) × (Second × (RefT (List ℤ) × (Second × (RefT (List ℤ) × (ℤ × (ℤ × Unit {0}))))))
+  args = (leap, (sunstart, (sun, (moonstart, (moon, (zone, (year, tt)))))))
 
   abbrev passed : Vals sui-of.signature sui-κs
-  passed = (sliced leap ∷ [], (second-val sunstart ∷ [], (sliced sun ∷ [], (second-val moonstart ∷ [], (sliced moon ∷ [], (num year ∷ [], tt))))))
+  passed = (sliced leap ∷ [], (second-val sunstart ∷ [], (sliced sun ∷ [], (second-val moonstart ∷ [], (sliced moon ∷ [], (num zone ∷ [], (num year ∷ [], tt)))))))
 
   abbrev to-sui : SuiOf 𝓤 H A mem run .Ghost
   to-sui = ((sui-κs, sui-qs, tt, args, passed), tt)
 
   asked : ent 𝓤 (onEntry 𝓤 H A sui-of.signature sui-κs sui-qs args passed) (SuiOf 𝓤 H A mem run .pre to-sui)
-  asked = qed W ((‵ (flft κ q) ⊛ ‵ (flft κ′ q′) ⊛ ‵ (flft κ″ q″) ⊛ ‵ ftrue) ∷ ‵ (owns (ShrSlice (named 0) κ i64 ∷ N.the-row ∷ ShrSlice (named 1) κ′ i64 ∷ N.the-row ∷ ShrSlice (named 2) κ″ i64 ∷ i64 ∷ []) args passed) ∷ []) ∵ join ! $ frame ! $ done !
+  asked = qed W ((‵ (flft κ q) ⊛ ‵ (flft κ′ q′) ⊛ ‵ (flft κ″ q″) ⊛ ‵ ftrue) ∷ ‵ (owns (ShrSlice (named 0) κ i64 ∷ N.the-row ∷ ShrSlice (named 1) κ′ i64 ∷ N.the-row ∷ ShrSlice (named 2) κ″ i64 ∷ i64 ∷ i64 ∷ []) args passed) ∷ []) ∵ join ! $ frame ! $ done !
 
   apart : ent 𝓤 (onEntry 𝓤 H A self.signature κs qs a vals) (sep 𝓤 (SuiOf 𝓤 H A mem run .pre to-sui) (sep 𝓤 (sem 𝓤 H A Leap) (sep 𝓤 (sem 𝓤 H A Sun) (sep 𝓤 (sem 𝓤 H A Moon) (sep 𝓤 (sem 𝓤 H A Mut) (A .lft κ‴ q‴))))))
   apart =
-      qed W ((‵ (flft κ q) ⊛ ‵ (flft κ′ q′) ⊛ ‵ (flft κ″ q″) ⊛ ‵ (flft κ‴ q‴) ⊛ ‵ ftrue) ∷ ‵ (owns (ShrSlice (named 0) κ i64 ∷ N.the-row ∷ ShrSlice (named 1) κ′ i64 ∷ N.the-row ∷ ShrSlice (named 2) κ″ i64 ∷ i64 ∷ MutSlice (named 3) κ‴ R ∷ []) a vals) ∷ []) ∵
+      qed W ((‵ (flft κ q) ⊛ ‵ (flft κ′ q′) ⊛ ‵ (flft κ″ q″) ⊛ ‵ (flft κ‴ q‴) ⊛ ‵ ftrue) ∷ ‵ (owns (ShrSlice (named 0) κ i64 ∷ N.the-row ∷ ShrSlice (named 1) κ′ i64 ∷ N.the-row ∷ ShrSlice (named 2) κ″ i64 ∷ i64 ∷ i64 ∷ MutSlice (named 3) κ‴ R ∷ []) a vals) ∷ []) ∵
       move ! (1 ∷ []) $ fsplit ! $ use1 W (‵ Leap ⊛ ‵ Leap) (shr-slice-copy 𝓤 H A W (named 0) κ i64 .twice leap (sliced leap ∷ [])) $ split ! $
       move ! (2 ∷ []) $ fsplit ! $ drop ! $ fsplit ! $ use1 W (‵ Sun ⊛ ‵ Sun) (shr-slice-copy 𝓤 H A W (named 1) κ′ i64 .twice sun (sliced sun ∷ [])) $ split ! $
       move ! (2 ∷ []) $ fsplit ! $ drop ! $ fsplit ! $ use1 W (‵ Moon ⊛ ‵ Moon) (shr-slice-copy 𝓤 H A W (named 2) κ″ i64 .twice moon (sliced moon ∷ [])) $ split ! $
-      move ! (2 ∷ []) $ fsplit ! $ drop ! $ fsplit ! $ move ! (1 ∷ []) $ drop ! $
+      move ! (2 ∷ []) $ fsplit ! $ drop ! $ fsplit ! $ drop ! $ fsplit ! $ move ! (1 ∷ []) $ drop ! $
       -- [the list's; Moon; Moon; Sun; Sun; Leap; Leap; the tokens]
       move ! (7 ∷ []) $ split ! $ move ! (1 ∷ []) $ split ! $ move ! (1 ∷ []) $ split ! $ move ! (1 ∷ []) $ split ! $ move ! (2 ∷ 1 ∷ []) $ join ! $ move ! (2 ∷ 0 ∷ []) $ join ! $ move ! (2 ∷ 0 ∷ []) $ join ! $
       -- [three tokens; the fourth; the list's; Moon; Moon; Sun; Sun; Leap; Leap]
-      nothing ! $ use0 W (‵ (i64 .own year (num year ∷ []))) (has-i64 𝓤 H A W year year-fits) $ fjoin ! $ move ! (4 ∷ 0 ∷ []) $ fjoin ! $
+      nothing ! $ use0 W (‵ (i64 .own year (num year ∷ []))) (has-i64 𝓤 H A W year year-fits) $ fjoin ! $ use0 W (‵ (i64 .own zone (num zone ∷ []))) (has-i64 𝓤 H A W zone zone-fits) $ fjoin ! $ move ! (4 ∷ 0 ∷ []) $ fjoin ! $
       use0 W (‵ (N.the-row .own moonstart (second-val moonstart ∷ []))) (has-second 𝓤 H A W moonstart is-moon) $ fjoin ! $ move ! (5 ∷ 0 ∷ []) $ fjoin ! $
       use0 W (‵ (N.the-row .own sunstart (second-val sunstart ∷ []))) (has-second 𝓤 H A W sunstart is-sun) $ fjoin ! $ move ! (6 ∷ 0 ∷ []) $ fjoin ! $
       move ! (1 ∷ 0 ∷ []) $ use2 W (raw (SuiOf 𝓤 H A mem run .pre to-sui)) asked $ move ! (0 ∷ 5 ∷ 4 ∷ 3 ∷ 2 ∷ 1 ∷ []) $ done !
 
   -- what is found
   abbrev found : Verdict Sui
-  found = suiFor (inputs (now leap) (sunstart .0) (now sun) (moonstart .0) (now moon)) utc8 year
+  found = suiFor (inputs (now leap) (sunstart .0) (now sun) (moonstart .0) (now moon)) zone year
 
   sui-said : (r : SuiAnswer) → ent 𝓤 (ensured 𝓤 H A sui-of.ended (sui-of.clauses 𝓤 H A mem run) sui-κs args tt r) (fact 𝓤 (r ≡ suiAnswer found))
   sui-said r = exE 𝓤 _ (λ ws. snd∗ 𝓤 (sem 𝓤 H A (lasts sui-of.ended sui-κs args ws)) (fact 𝓤 (r ≡ suiAnswer found)))
@@ -195,29 +194,29 @@ module _ {M : Type 1} (𝓤 : URA M) (H : Heap 𝓤) (A : Atoms 𝓤) (W : Given
       → ent 𝓤 (⋆ 𝓤 H A (‵ (S.the-row .own t (w ∷ [])) ∷ (‵ (flft κ‴ q‴) ⊛ ‵ ftrue) ∷ ‵ (finally R γ zs) ∷ (‵ (flft κ q) ⊛ ‵ (flft κ′ q′) ⊛ ‵ (flft κ″ q″) ⊛ ‵ ftrue) ∷ ‵ Moon ∷ ‵ Sun ∷ ‵ Leap ∷ [])) (Post w)
   exits t w zs e l =
       qed W (‵ (S.the-row .own t (w ∷ [])) ∷ (‵ (flft κ‴ q‴) ⊛ ‵ ftrue) ∷ ‵ (finally R γ zs) ∷ (‵ (flft κ q) ⊛ ‵ (flft κ′ q′) ⊛ ‵ (flft κ″ q″) ⊛ ‵ ftrue) ∷ ‵ Moon ∷ ‵ Sun ∷ ‵ Leap ∷ []) ∵
-      suffices ! _ (ends-at 𝓤 H A self.ended stayed (self.clauses 𝓤 H A mem run) W ((κs, qs, tt, a, vals), tt) w t (tt, (tt, (tt, (tt, (tt, (tt, (zs, tt))))))) (tt, (tt, (tt, (tt, (tt, (tt, (l, tt)))))))) $ says-both ! e $
+      suffices ! _ (ends-at 𝓤 H A self.ended stayed (self.clauses 𝓤 H A mem run) W ((κs, qs, tt, a, vals), tt) w t (tt, (tt, (tt, (tt, (tt, (tt, (tt, (zs, tt)))))))) (tt, (tt, (tt, (tt, (tt, (tt, (tt, (l, tt))))))))) $ says-both ! e $
       move ! (3 ∷ []) $ split ! $ move ! (1 ∷ []) $ split ! $ move ! (1 ∷ []) $ split ! $ move ! (0 ∷ 5 ∷ []) $ join ! $ move ! (2 ∷ 0 ∷ []) $ join ! $ move ! (2 ∷ 0 ∷ []) $ join ! $ frame ! $
       -- [true; the result; the last list; Moon; Sun; Leap]
-      move ! (2 ∷ 0 ∷ []) $ fjoin ! $ use0 W (‵ (i64 .own year (num year ∷ []))) (has-i64 𝓤 H A W year year-fits) $ fjoin ! $ move ! (2 ∷ 0 ∷ []) $ fjoin ! $
+      move ! (2 ∷ 0 ∷ []) $ fjoin ! $ use0 W (‵ (i64 .own year (num year ∷ []))) (has-i64 𝓤 H A W year year-fits) $ fjoin ! $ use0 W (‵ (i64 .own zone (num zone ∷ []))) (has-i64 𝓤 H A W zone zone-fits) $ fjoin ! $ move ! (2 ∷ 0 ∷ []) $ fjoin ! $
       use0 W (‵ (N.the-row .own moonstart (second-val moonstart ∷ []))) (has-second 𝓤 H A W moonstart is-moon) $ fjoin ! $ move ! (2 ∷ 0 ∷ []) $ fjoin ! $
       use0 W (‵ (N.the-row .own sunstart (second-val sunstart ∷ []))) (has-second 𝓤 H A W sunstart is-sun) $ fjoin ! $ move ! (2 ∷ 0 ∷ []) $ fjoin ! $ frame ! $ done !
 
   module _ (C : Calls 𝓤 H) (Λ : Loops 𝓤 H) (fm : FmC 𝓤 H (W .laws) C) (known-sui : Triple 𝓤 (C #sui-of) (SuiOf 𝓤 H A mem run)) (known-store : Triple 𝓤 (C #store) (Store 𝓤 H A mem run)) where
     walk : Is (ShrSlice (named 0) κ i64) leap (sliced leap ∷ []) → Is (ShrSlice (named 1) κ′ i64) sun (sliced sun ∷ []) → Is (ShrSlice (named 2) κ″ i64) moon (sliced moon ∷ []) → Room R (length ys)
-        → ent 𝓤 (onEntry 𝓤 H A self.signature κs qs a vals) (WpFn 𝓤 H C Λ code.function (sliced leap ∷ second-val sunstart ∷ sliced sun ∷ second-val moonstart ∷ sliced moon ∷ num year ∷ s ∷ []) Post)
+        → ent 𝓤 (onEntry 𝓤 H A self.signature κs qs a vals) (WpFn 𝓤 H C Λ code.function (sliced leap ∷ second-val sunstart ∷ sliced sun ∷ second-val moonstart ∷ sliced moon ∷ num zone ∷ num year ∷ s ∷ []) Post)
     walk is-leap is-sun-coefs is-moon-coefs room =
-        qed W (raw (onEntry 𝓤 H A self.signature κs qs a vals) ∷ []) ∵ enter ! C Λ code.function (sliced leap ∷ second-val sunstart ∷ sliced sun ∷ second-val moonstart ∷ sliced moon ∷ num year ∷ s ∷ []) _ $
-        alloc1 ! (λ l₀. alloc1 ! (λ l₁. alloc1 ! (λ l₂. alloc1 ! (λ l₃. alloc1 ! (λ l₄. alloc1 ! (λ l₅. alloc1 ! (λ l₆. alloc1 ! (λ l₇. alloc1 ! (λ l₈. alloc1 ! (λ l₉. alloc1 ! (λ l₁₀. alloc0 ! $ params1 ! $
-        pass1 ! (init ! 18 refl (shr-slice-lawful 𝓤 H A W (named 0) κ i64 .typed leap (sliced leap ∷ []) is-leap .0)) $
-        pass1 ! (init ! 16 refl (LL.lawful N.the-type N′.the-laws 𝓤 H A W .typed sunstart _ is-sun .0)) $ pass1 ! (init ! 14 refl (shr-slice-lawful 𝓤 H A W (named 1) κ′ i64 .typed sun (sliced sun ∷ []) is-sun-coefs .0)) $
-        pass1 ! (init ! 12 refl (LL.lawful N.the-type N′.the-laws 𝓤 H A W .typed moonstart _ is-moon .0)) $ pass1 ! (init ! 10 refl (shr-slice-lawful 𝓤 H A W (named 2) κ″ i64 .typed moon (sliced moon ∷ []) is-moon-coefs .0)) $
-        pass1 ! (init ! 8 refl (tt, ofZ-fits w64 year (record { sfits = year-fits }))) $ pass1 ! (init ! 6 refl (tt, (tt, (record { fits = room .0 }, tt)))) $ pass0 ! $
+        qed W (raw (onEntry 𝓤 H A self.signature κs qs a vals) ∷ []) ∵ enter ! C Λ code.function (sliced leap ∷ second-val sunstart ∷ sliced sun ∷ second-val moonstart ∷ sliced moon ∷ num zone ∷ num year ∷ s ∷ []) _ $
+        alloc1 ! (λ l₀. alloc1 ! (λ l₁. alloc1 ! (λ l₂. alloc1 ! (λ l₃. alloc1 ! (λ l₄. alloc1 ! (λ l₅. alloc1 ! (λ l₆. alloc1 ! (λ l₇. alloc1 ! (λ l₈. alloc1 ! (λ l₉. alloc1 ! (λ l₁₀. alloc1 ! (λ l₁₁. alloc0 ! $ params1 ! $
+        pass1 ! (init ! 20 refl (shr-slice-lawful 𝓤 H A W (named 0) κ i64 .typed leap (sliced leap ∷ []) is-leap .0)) $
+        pass1 ! (init ! 18 refl (LL.lawful N.the-type N′.the-laws 𝓤 H A W .typed sunstart _ is-sun .0)) $ pass1 ! (init ! 16 refl (shr-slice-lawful 𝓤 H A W (named 1) κ′ i64 .typed sun (sliced sun ∷ []) is-sun-coefs .0)) $
+        pass1 ! (init ! 14 refl (LL.lawful N.the-type N′.the-laws 𝓤 H A W .typed moonstart _ is-moon .0)) $ pass1 ! (init ! 12 refl (shr-slice-lawful 𝓤 H A W (named 2) κ″ i64 .typed moon (sliced moon ∷ []) is-moon-coefs .0)) $
+        pass1 ! (init ! 10 refl (tt, ofZ-fits w64 zone (record { sfits = zone-fits }))) $ pass1 ! (init ! 8 refl (tt, ofZ-fits w64 year (record { sfits = year-fits }))) $ pass1 ! (init ! 6 refl (tt, (tt, (record { fits = room .0 }, tt)))) $ pass0 ! $
         -- `sui`
-        move ! (22 ∷ []) $ use1 W (raw (SuiOf 𝓤 H A mem run .pre to-sui) ⊛ ‵ Leap ⊛ ‵ Sun ⊛ ‵ Moon ⊛ ‵ Mut ⊛ ‵ (flft κ‴ q‴)) apart $ split ! $ move ! (1 ∷ []) $ split ! $ move ! (1 ∷ []) $ split ! $ move ! (1 ∷ []) $ split ! $ move ! (1 ∷ []) $ split ! $ move ! (5 ∷ []) $
+        move ! (24 ∷ []) $ use1 W (raw (SuiOf 𝓤 H A mem run .pre to-sui) ⊛ ‵ Leap ⊛ ‵ Sun ⊛ ‵ Moon ⊛ ‵ Mut ⊛ ‵ (flft κ‴ q‴)) apart $ split ! $ move ! (1 ∷ []) $ split ! $ move ! (1 ∷ []) $ split ! $ move ! (1 ∷ []) $ split ! $ move ! (1 ∷ []) $ split ! $ move ! (5 ∷ []) $
         -- [what the callee asks; the list's; its token; Moon; Sun; Leap; _10; …]
         calls-at ! fm (SuiOf 𝓤 H A mem run) known-sui to-sui
-        (and-then ! (load ! (from ! (stop !)) (look ! 24 refl)) (and-then ! (load ! (from ! (stop !)) (look ! 22 refl)) (and-then ! (load ! (from ! (stop !)) (look ! 20 refl)) (and-then ! (load ! (from ! (stop !)) (look ! 18 refl))
-        (and-then ! (load ! (from ! (stop !)) (look ! 16 refl)) (and-then ! (load ! (from ! (stop !)) (look ! 14 refl)) (no-more !))))))) (λ u.
+        (and-then ! (load ! (from ! (stop !)) (look ! 26 refl)) (and-then ! (load ! (from ! (stop !)) (look ! 24 refl)) (and-then ! (load ! (from ! (stop !)) (look ! 22 refl)) (and-then ! (load ! (from ! (stop !)) (look ! 20 refl)) (and-then ! (load ! (from ! (stop !)) (look ! 18 refl))
+        (and-then ! (load ! (from ! (stop !)) (look ! 16 refl)) (and-then ! (load ! (from ! (stop !)) (look ! 14 refl)) (no-more !)))))))) (λ u.
         use1 W (later (some (λ (r : SuiAnswer). ((‵ (flft κ q) ⊛ ‵ (flft κ′ q′) ⊛ ‵ (flft κ″ q″) ⊛ ‵ ftrue) ⊛ ‵ (U.the-row .own r (u ∷ []))) ⊛ raw (ensured 𝓤 H A sui-of.ended (sui-of.clauses 𝓤 H A mem run) sui-κs args tt r)))) (id⊢ 𝓤 _) $ await ! tt $ pick ! (λ r.
         split ! $ move ! (1 ∷ []) $ use1 W (raw (fact 𝓤 (r ≡ suiAnswer found))) (sui-said r) $ heard ! (r ≡ suiAnswer found) (λ p. split ! $ move ! (1 ∷ []) $
         -- [the answer's; three tokens; the list's; its token; Moon; Sun; Leap; _10; …]
@@ -236,21 +235,21 @@ module _ {M : Type 1} (𝓤 : URA M) (H : Heap 𝓤) (A : Atoms 𝓤) (W : Given
         -- [the last list; its token and the result; three tokens; Moon; Sun; Leap; _10; …]
         move ! (1 ∷ []) $ split ! $ move ! (1 ∷ []) $ peeks ! S.the-row (Is S.the-row) (shows 𝓤 H A S.the-row) t (w ∷ []) (λ is′.
         -- [the result; its token; the last list; three tokens; Moon; Sun; Leap; _10; …]
-        land ! (from ! (stop !)) (init ! 27 refl (EL.lawful S.the-type S′.the-laws 𝓤 H A W tt .typed t _ is′ .0)) $
-        returns ! (look ! 27 refl) $ forget ! 7 refl $ forget ! 9 refl $ forget ! 11 refl $ forget ! 13 refl $ forget ! 15 refl $ forget ! 17 refl $ forget ! 19 refl $ forget ! 21 refl $ forget ! 23 refl $ forget ! 25 refl $ forget ! 27 refl $
-        move ! (27 ∷ 28 ∷ []) $ free1 ! $ move ! (25 ∷ 26 ∷ []) $ free1 ! $ move ! (23 ∷ 24 ∷ []) $ free1 ! $ move ! (21 ∷ 22 ∷ []) $ free1 ! $ move ! (19 ∷ 20 ∷ []) $ free1 ! $ move ! (17 ∷ 18 ∷ []) $ free1 ! $
+        land ! (from ! (stop !)) (init ! 29 refl (EL.lawful S.the-type S′.the-laws 𝓤 H A W tt .typed t _ is′ .0)) $
+        returns ! (look ! 29 refl) $ forget ! 7 refl $ forget ! 9 refl $ forget ! 11 refl $ forget ! 13 refl $ forget ! 15 refl $ forget ! 17 refl $ forget ! 19 refl $ forget ! 21 refl $ forget ! 23 refl $ forget ! 25 refl $ forget ! 27 refl $ forget ! 29 refl $
+        move ! (29 ∷ 30 ∷ []) $ free1 ! $ move ! (27 ∷ 28 ∷ []) $ free1 ! $ move ! (25 ∷ 26 ∷ []) $ free1 ! $ move ! (23 ∷ 24 ∷ []) $ free1 ! $ move ! (21 ∷ 22 ∷ []) $ free1 ! $ move ! (19 ∷ 20 ∷ []) $ free1 ! $ move ! (17 ∷ 18 ∷ []) $ free1 ! $
         move ! (15 ∷ 16 ∷ []) $ free1 ! $ move ! (13 ∷ 14 ∷ []) $ free1 ! $ move ! (11 ∷ 12 ∷ []) $ free1 ! $ move ! (9 ∷ 10 ∷ []) $ free1 ! $ move ! (7 ∷ 8 ∷ []) $ free1 ! $ free0 ! $
-        by ! (exits t w (zs .1 .0) (said-of r t (zs .1 .0) p (e, f)) l)))))))))))))))))))))))
+        by ! (exits t w (zs .1 .0) (said-of r t (zs .1 .0) p (e, f)) l))))))))))))))))))))))))
 
 module _ {M : Type 1} (𝓤 : URA M) (H : Heap 𝓤) (A : Atoms 𝓤) (W : Given 𝓤 H A) (mem : Memory → SProp 𝓤) (run : Routine → Fun 𝓤) where
   self-walks : (C : Calls 𝓤 H) (Λ : Loops 𝓤 H) → FmC 𝓤 H (W .laws) C → Triple 𝓤 (C #sui-of) (SuiOf 𝓤 H A mem run) → Triple 𝓤 (C #store) (Store 𝓤 H A mem run)
       → Walks 𝓤 H A self.ended stayed (WpFn 𝓤 H C Λ code.function) (self.clauses 𝓤 H A mem run)
   self-walks C Λ fm known-sui known-store = walked 𝓤 H A self.ended stayed (self.clauses 𝓤 H A mem run) (WpFn 𝓤 H C Λ code.function)
-      (λ κs. (slice-vals, (LL.vals N.the-type N′.the-laws, (slice-vals, (LL.vals N.the-type N′.the-laws, (slice-vals, (sint-vals w64, (slice-vals, tt))))))))
-      (λ κs. (shr-slice-tells (named 0) (κs .0) i64, (LL.tells N.the-type N′.the-laws, (shr-slice-tells (named 1) (κs .1 .0) i64, (LL.tells N.the-type N′.the-laws, (shr-slice-tells (named 2) (κs .1 .1 .0) i64, (sint-tells w64, (mut-slice-tells (named 3) (κs .1 .1 .1 .0) R, tt))))))))
-      (λ κs qs bounds a g are. via 𝓤 _ (fst∗ 𝓤 _ (emp 𝓤)) (let out = a .1 .1 .1 .1 .1 .1 .0 in walk 𝓤 H A W mem run (κs .0) (κs .1 .0) (κs .1 .1 .0) (κs .1 .1 .1 .0) (qs .0) (qs .1 .0) (qs .1 .1 .0) (qs .1 .1 .1 .0)
-      (a .0) (a .1 .0) (a .1 .1 .0) (a .1 .1 .1 .0) (a .1 .1 .1 .1 .0) (a .1 .1 .1 .1 .1 .0) (out .ptr .0) (out .ptr .1) (out .name) (out .now)
-      (are .1 .0) (are .1 .1 .1 .0) (are .1 .1 .1 .1 .1 .0 .1) C Λ fm known-sui known-store (are .0) (are .1 .1 .0) (are .1 .1 .1 .1 .0) (are .1 .1 .1 .1 .1 .1 .0 .0 .1)))
+      (λ κs. (slice-vals, (LL.vals N.the-type N′.the-laws, (slice-vals, (LL.vals N.the-type N′.the-laws, (slice-vals, (sint-vals w64, (sint-vals w64, (slice-vals, tt)))))))))
+      (λ κs. (shr-slice-tells (named 0) (κs .0) i64, (LL.tells N.the-type N′.the-laws, (shr-slice-tells (named 1) (κs .1 .0) i64, (LL.tells N.the-type N′.the-laws, (shr-slice-tells (named 2) (κs .1 .1 .0) i64, (sint-tells w64, (sint-tells w64, (mut-slice-tells (named 3) (κs .1 .1 .1 .0) R, tt)))))))))
+      (λ κs qs bounds a g are. via 𝓤 _ (fst∗ 𝓤 _ (emp 𝓤)) (let out = a .1 .1 .1 .1 .1 .1 .1 .0 in walk 𝓤 H A W mem run (κs .0) (κs .1 .0) (κs .1 .1 .0) (κs .1 .1 .1 .0) (qs .0) (qs .1 .0) (qs .1 .1 .0) (qs .1 .1 .1 .0)
+      (a .0) (a .1 .0) (a .1 .1 .0) (a .1 .1 .1 .0) (a .1 .1 .1 .1 .0) (a .1 .1 .1 .1 .1 .0) (a .1 .1 .1 .1 .1 .1 .0) (out .ptr .0) (out .ptr .1) (out .name) (out .now)
+      (are .1 .0) (are .1 .1 .1 .0) (are .1 .1 .1 .1 .1 .0 .1) (are .1 .1 .1 .1 .1 .1 .0 .1) C Λ fm known-sui known-store (are .0) (are .1 .1 .0) (are .1 .1 .1 .1 .0) (are .1 .1 .1 .1 .1 .1 .1 .0 .0 .1)))
 
 self-meets : {M : Type 1} (𝓤 : URA M) (H : Heap 𝓤) (A : Atoms 𝓤) (W : Given 𝓤 H A) (mem : Memory → SProp 𝓤) (run : Routine → Fun 𝓤) (𝓣 : Tables 𝓤 H)
     → Triple 𝓤 (𝓣 .C #sui-of) (SuiOf 𝓤 H A mem run) → Triple 𝓤 (𝓣 .C #store) (Store 𝓤 H A mem run)
@@ -263,7 +262,7 @@ self-meets 𝓤 H A W mem run 𝓣 known-sui known-store = walk-meets 𝓤 H A s
       goes-none-slice 𝓤 H A W 4 (1 ∷ []) tt (plain (λ _. i64)) yes,
       (
         goes-none 𝓤 H A W 4 (λ _. N.the-row) yes (λ κs x f. refl),
-        (goes-none-slice 𝓤 H A W 4 (2 ∷ []) tt (plain (λ _. i64)) yes, (goes-none 𝓤 H A W 4 (λ _. i64) yes (λ κs x f. refl), (goes-gave-slice 𝓤 H A W 4 3 tt (plain (λ _. R)), tt))),
+        (goes-none-slice 𝓤 H A W 4 (2 ∷ []) tt (plain (λ _. i64)) yes, (goes-none 𝓤 H A W 4 (λ _. i64) yes (λ κs x f. refl), (goes-none 𝓤 H A W 4 (λ _. i64) yes (λ κs x f. refl), (goes-gave-slice 𝓤 H A W 4 3 tt (plain (λ _. R)), tt)))),
       ),
     ),
   ),

@@ -1,6 +1,6 @@
 -- What the answers of the parts tell: the verdict of the whole from those of the judge, the days and the month rule; what an answered `suiDays` is made of; and
 -- that every day is small. Assumes nothing.
-use mathlib.Core.Path.{_≡_, refl, sym}
+use mathlib.Core.Path.{_≡_}
 use mathlib.Core.Bool.{true, not}
 use mathlib.Core.List.{List, [], _∷_}
 use Prim.Native.Nat.{ℕ, zero, suc, _<_}
@@ -12,15 +12,16 @@ use Rattle.whole.specs.Bounded.{zero-within, all-wider, all-append, all-zeros}
 use Rattle.whole.specs.Ranges.{Within, All}
 use Rattle.whole.specs.Tabulated.{tabulate}
 use Rattle.refusals.specs.declared.Refusal.{Refusal}
-use Rattle.refusals.specs.Verdict.{Verdict, accepted, answered, refused, refusal, _before_, _then_, test-answered, then-answered, answer-or-refusal}
+use Rattle.refusals.specs.Verdict.{Verdict, accepted, answered, refused, refusal, _before_, _then_, test-answered, then-answered, before-answered}
 use Rattle.dates.specs.Answers.{hasDate}
 use Rattle.dates.specs.theory.Sizes.{range-small}
 use Rattle.clock.specs.Theorems.{converted-day-has-date}
 use Rattle.series.specs.Series.{Series}
 use Rattle.marks.specs.Marks.{Mark}
 use Rattle.marks.specs.Listed.{secondOfMark}
-use Rattle.inputs.specs.Inputs.{Inputs, moon, inputsJudged, InputsAccepted, dayOfMark}
+use Rattle.inputs.specs.Inputs.{Inputs, moon, judgedIn, InputsAccepted, dayOfMark}
 use Rattle.inputs.specs.Known.{Known, Ready}
+use Rattle.inputs.specs.Theorems.{accepted-in}
 use Rattle.inputs.specs.theory.Converted.{mark-converts}
 use Rattle.months.specs.declared.SuiDays.{SuiDays}
 use Rattle.months.specs.Months.{daysOf, suiOf}
@@ -30,7 +31,7 @@ use Rattle.turns.specs.Listed.{turnIndexOf, turnsOf, turn-after, turn-by-last, 
 use Rattle.sui.specs.theory.Solstices.{new-moons-are}
 
 -- ---- the whole from its parts
-module _ (i : Inputs) (zone year : ℤ) (judged : InputsAccepted i) where
+module _ (i : Inputs) (zone year : ℤ) (judged : judgedIn i zone ≡ accepted) where
   pub sui-refused : {q : Refusal} → suiDays i zone year ≡ refusal q → refusal q ≡ suiFor i zone year
   unfolding suiFor
   sui-refused e = rw (judged, e)
@@ -90,10 +91,9 @@ new-moons-small i zone k z =
     rw (new-moons-are i zone k)
     (all-wider (all-tabulate {m = 200000} (turnDay (i .leap) (moon i) zone) (turnsOf (moon i)) (turn-day-small (i .leap) (moon i) (k .moon-ready) zone z)) (omega arith))
 
--- ---- what answers behind the judge tell: the inputs are accepted
-pub inputs-answered : (i : Inputs) {A : Type 0} (v : Verdict A) {a : A} → inputsJudged i before v ≡ answered a → InputsAccepted i × (v ≡ answered a)
-inputs-answered i {A} v {a} e = go (inputsJudged i) e
-  where
-    go : (u : Verdict (Unit {0})) → u before v ≡ answered a → (u ≡ accepted) × (v ≡ answered a)
-    go (answered tt) e = (refl, e)
-    go (refused number segment) e = answer-or-refusal (sym e)
+-- ---- what answers behind the judge tell: the inputs are accepted, and the zone is small
+pub inputs-answered : (i : Inputs) (zone : ℤ) {A : Type 0} (v : Verdict A) {a : A} → judgedIn i zone before v ≡ answered a → InputsAccepted i × (v ≡ answered a) × Within 1000 zone
+inputs-answered i zone {A} v {a} e =
+    let b = before-answered (judgedIn i zone) v e in
+    let k = accepted-in i zone (b .0) in
+    (k .1, b .1, k .0)

@@ -6,10 +6,10 @@ use Rattle.sui_real.proofs.print_suis.Statement.{statement}
 use Rattle.sui_real.proofs.print_suis.Tie as tie
 
 abbrev Inv-loop : tie.InvT-loop
-Inv-loop words k₀ k = Unit {0}
+Inv-loop words zone k₀ k = Unit {0}
 
 abbrev μ-loop : tie.MeasureT-loop
-μ-loop words k₀ k = 6 - k
+μ-loop words zone k₀ k = 6 - k
 
 returns : tie.Need-returns Inv-loop μ-loop
 returns c = search needs
@@ -32,8 +32,8 @@ part-sui-start c = search needs
 part-sui-end : tie.Need-part-sui-end Inv-loop μ-loop
 part-sui-end c = search needs
 
-shared-slice-copy-out-t10 : tie.Need-shared-slice-copy-out-t10 Inv-loop μ-loop
-shared-slice-copy-out-t10 c = search needs
+shared-slice-copy-out-t11 : tie.Need-shared-slice-copy-out-t11 Inv-loop μ-loop
+shared-slice-copy-out-t11 c = search needs
 
 sub-sui-2 : tie.Need-sub-sui-2 Inv-loop μ-loop
 sub-sui-2 c = search needs
@@ -44,8 +44,8 @@ part-sui-start-2 c = search needs
 part-sui-end-2 : tie.Need-part-sui-end-2 Inv-loop μ-loop
 part-sui-end-2 c = search needs
 
-shared-slice-copy-out-t21 : tie.Need-shared-slice-copy-out-t21 Inv-loop μ-loop
-shared-slice-copy-out-t21 c = search needs
+shared-slice-copy-out-t22 : tie.Need-shared-slice-copy-out-t22 Inv-loop μ-loop
+shared-slice-copy-out-t22 c = search needs
 
 sub-sui-3 : tie.Need-sub-sui-3 Inv-loop μ-loop
 sub-sui-3 c = search needs
@@ -87,11 +87,11 @@ print-suis-spec =
     sub-sui
     part-sui-start
     part-sui-end
-    shared-slice-copy-out-t10
+    shared-slice-copy-out-t11
     sub-sui-2
     part-sui-start-2
     part-sui-end-2
-    shared-slice-copy-out-t21
+    shared-slice-copy-out-t22
     sub-sui-3
     part-sui-start-3
     part-sui-end-3

@@ -29,7 +29,7 @@ returns c =
     let broken = c .before in
     let start = broken .before .before .before .before in
     let a = start .args in
-    refusing (a .file .now) (rest-broken (a .words .now) (a .year) (a .count) (length (a .file .now)) (sym (broken .before .before .find-places .ensures) ∙ ap paperPlaces (broken .r .given .1)))
+    refusing (a .file .now) (rest-broken (a .words .now) (a .zone) (a .year) (a .count) (length (a .file .now)) (sym (broken .before .before .find-places .ensures) ∙ ap paperPlaces (broken .r .given .1)))
 
 same-length : tie.Need-same-length
 same-length c = search needs
@@ -40,8 +40,8 @@ returns-2 c =
     let found = built .before .before .before in
     let start = found .before .before .before .before in
     let a = start .args in
-    passing-on (a .file .now) (rest-found (a .words .now) (a .year) (a .count) (length (a .file .now)) (sym (found .before .before .find-places .ensures) ∙ ap paperPlaces (found .p .given .1)))
-    (rw (toZ-ofZ (start .fits .year), toZ-ofZ (start .fits .count)) at (built .build-sections .ensures))
+    passing-on (a .file .now) (rest-found (a .words .now) (a .zone) (a .year) (a .count) (length (a .file .now)) (sym (found .before .before .find-places .ensures) ∙ ap paperPlaces (found .p .given .1)))
+    (rw (toZ-ofZ (start .fits .zone), toZ-ofZ (start .fits .year), toZ-ofZ (start .fits .count)) at (built .build-sections .ensures))
 
 pub build-rest-spec : {M : Type 1} → statement M
 build-rest-spec =

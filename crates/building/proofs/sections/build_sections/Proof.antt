@@ -16,23 +16,23 @@ add-first c = search needs
 add-behind : tie.Need-add-behind
 add-behind c = search needs
 
-add-t11 : tie.Need-add-t11
-add-t11 c = search needs
+add-t12 : tie.Need-add-t12
+add-t12 c = search needs
 
-mul-t12 : tie.Need-mul-t12
-mul-t12 c = search needs
+mul-t13 : tie.Need-mul-t13
+mul-t13 c = search needs
 
-shared-slice-copy-out-t14 : tie.Need-shared-slice-copy-out-t14
-shared-slice-copy-out-t14 c = search needs
+shared-slice-copy-out-t15 : tie.Need-shared-slice-copy-out-t15
+shared-slice-copy-out-t15 c = search needs
 
-add-t11-2 : tie.Need-add-t11-2
-add-t11-2 c = search needs
+add-t12-2 : tie.Need-add-t12-2
+add-t12-2 c = search needs
 
-mul-t12-2 : tie.Need-mul-t12-2
-mul-t12-2 c = search needs
+mul-t13-2 : tie.Need-mul-t13-2
+mul-t13-2 c = search needs
 
-shared-slice-copy-out-t14-2 : tie.Need-shared-slice-copy-out-t14-2
-shared-slice-copy-out-t14-2 c = search needs
+shared-slice-copy-out-t15-2 : tie.Need-shared-slice-copy-out-t15-2
+shared-slice-copy-out-t15-2 c = search needs
 
 sub-build : tie.Need-sub-build
 sub-build c = search needs
@@ -80,7 +80,7 @@ returns c =
     let a = start .args in
     let fs : SFits w64 (getD (a .words .now) (a .sun + 1) (pos 0)) = search needs in
     let fm : SFits w64 (getD (a .words .now) (a .moon + 1) (pos 0)) = search needs in
-    rw (toZ-ofZ fs, toZ-ofZ fm, toZ-ofZ (start .fits .year), toZ-ofZ (start .fits .count)) at (c .before .before .build .ensures)
+    rw (toZ-ofZ fs, toZ-ofZ fm, toZ-ofZ (start .fits .zone), toZ-ofZ (start .fits .year), toZ-ofZ (start .fits .count)) at (c .before .before .build .ensures)
 
 pub build-sections-spec : {M : Type 1} → statement M
 build-sections-spec =
@@ -88,12 +88,12 @@ build-sections-spec =
     (tie.spec
     add-first
     add-behind
-    add-t11
-    mul-t12
-    shared-slice-copy-out-t14
-    add-t11-2
-    mul-t12-2
-    shared-slice-copy-out-t14-2
+    add-t12
+    mul-t13
+    shared-slice-copy-out-t15
+    add-t12-2
+    mul-t13-2
+    shared-slice-copy-out-t15-2
     sub-build
     part-build-start
     part-build-end

@@ -13,7 +13,7 @@ use Rattle.building.proofs.sections.build_words.Statement.{statement}
 use Rattle.building.proofs.sections.build_words.Tie as tie
 
 returns : tie.Need-returns
-returns c = let a = c .before .before .args in refusing (a .file .now) (too-few (a .words .now) (length (a .file .now)) (c .if1 .taken))
+returns c = let a = c .before .before .args in refusing (a .file .now) (too-few (a .words .now) (a .zone) (length (a .file .now)) (c .if1 .taken))
 
 sub-build-rest : tie.Need-sub-build-rest
 sub-build-rest c = search needs
@@ -44,8 +44,8 @@ returns-2 c =
     let ws = a .words .now in
     let fy : SFits w64 (getD ws 0 (pos 0)) = search needs in
     let fc : SFits w64 (getD ws 1 (pos 0)) = search needs in
-    passing-on (a .file .now) (enough ws (length (a .file .now)) (c .before .before .before .before .before .before .before .if1 .left))
-    (rw (toZ-ofZ fy, toZ-ofZ fc, take-all (length ws - 2) (drop 2 ws) (omega (arith, length-drop 2 ws))) at (built .build-rest .ensures))
+    passing-on (a .file .now) (enough ws (a .zone) (length (a .file .now)) (c .before .before .before .before .before .before .before .if1 .left))
+    (rw (toZ-ofZ (start .fits .zone), toZ-ofZ fy, toZ-ofZ fc, take-all (length ws - 2) (drop 2 ws) (omega (arith, length-drop 2 ws))) at (built .build-rest .ensures))
 
 pub build-words-spec : {M : Type 1} → statement M
 build-words-spec =

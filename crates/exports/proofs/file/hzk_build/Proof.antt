@@ -5,7 +5,6 @@ use native.Mathlib.Omega.{arith}
 use lib.ListN.{length}
 use mir.Facts.{toZ-ofZ}
 use Rattle.refusals.specs.Lent.{writtenInto}
-use Rattle.clock.specs.Clock.{utc8}
 use Rattle.inputs.specs.Inputs.{Inputs, inputs}
 use Rattle.almanac.specs.Answers.{paperWritten, all-bytes}
 use Rattle.built.specs.Build.{bytesBuilt, fileBuilt}
@@ -23,11 +22,11 @@ said : (c : tie.After-build) →
     (let start = c .before .before .before in
     let a = start .args in
     let room = a .file .now in
-    (paperWritten (c .build .result) ≡ fileBuilt (given start) utc8 (a .first) (a .count) (length room))
-    × (c .build .last .1 .1 .1 .1 .1 .1 .1 .0 ≡ writtenInto (bytesBuilt (given start) utc8 (a .first) (a .count) (length room)) all-bytes room))
+    (paperWritten (c .build .result) ≡ fileBuilt (given start) (a .zone) (a .first) (a .count) (length room))
+    × (c .build .last .1 .1 .1 .1 .1 .1 .1 .1 .0 ≡ writtenInto (bytesBuilt (given start) (a .zone) (a .first) (a .count) (length room)) all-bytes room))
 said c =
     let fits = c .before .before .before .fits in
-    rw (toZ-ofZ (fits .sunstart), toZ-ofZ (fits .moonstart), toZ-ofZ (fits .first), toZ-ofZ (fits .count)) at (c .build .ensures)
+    rw (toZ-ofZ (fits .sunstart), toZ-ofZ (fits .moonstart), toZ-ofZ (fits .zone), toZ-ofZ (fits .first), toZ-ofZ (fits .count)) at (c .build .ensures)
 
 build-requires : tie.Need-build-requires
 build-requires c κs = search needs
@@ -36,8 +35,8 @@ written-record-requires : tie.Need-written-record-requires
 written-record-requires c κs =
     let found = c .before .before in
     let start = found .before .before .before in
-    let room = start .good .1 .1 .1 .1 .1 .1 .1 .0 in
-    rw (said found .0) (build-fits (given start) utc8 (start .args .first) (start .args .count) (length (start .args .file .now)) (omega arith) (omega arith) (omega arith))
+    let room = start .good .1 .1 .1 .1 .1 .1 .1 .1 .0 in
+    rw (said found .0) (build-fits (given start) (start .args .zone) (start .args .first) (start .args .count) (length (start .args .file .now)) (omega arith) (omega arith) (omega arith))
 
 tell-requires : tie.Need-tell-requires
 tell-requires c κs = search needs

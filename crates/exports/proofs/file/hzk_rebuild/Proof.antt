@@ -6,7 +6,6 @@ use lib.ListN.{length}
 use mir.Facts.{toZ-ofZ}
 use Rattle.refusals.specs.Verdict.{Verdict}
 use Rattle.refusals.specs.Lent.{writtenInto}
-use Rattle.clock.specs.Clock.{utc8}
 use Rattle.inputs.specs.Inputs.{Inputs, inputs}
 use Rattle.rebuilt.specs.Rebuild.{NewFile, rebuilt, paperRebuilt, counted, new-bytes, kept-years}
 use Rattle.exports.specs.theory.File.{rebuild-fits}
@@ -22,7 +21,7 @@ abbrev new-of : tie.Start → Inputs
 new-of start = let a = start .args in inputs (a .leap .now) (a .sunstart) (a .sun .now) (a .moonstart) (a .moon .now)
 
 abbrev rebuilt-of : tie.Start → Verdict NewFile
-rebuilt-of start = rebuilt (old-of start) (new-of start) utc8 (start .args .old .now) (length (start .args .file .now)) (length (start .args .years .now))
+rebuilt-of start = rebuilt (old-of start) (new-of start) (start .args .zone) (start .args .old .now) (length (start .args .file .now)) (length (start .args .years .now))
 
 abbrev start-of : tie.After-rebuild → tie.Start
 start-of c = c .before .before .before .before .before
@@ -30,13 +29,13 @@ start-of c = c .before .before .before .before .before
 -- what the entry point said, and what it left in each lent place, in this function's own words
 said : (c : tie.After-rebuild) →
     (let start = start-of c in
-    let last = c .rebuild .last .1 .1 .1 .1 .1 .1 .1 .1 .1 .1 .1 in
+    let last = c .rebuild .last .1 .1 .1 .1 .1 .1 .1 .1 .1 .1 .1 .1 in
     (paperRebuilt (c .rebuild .result) ≡ counted (rebuilt-of start))
     × ((last .0 ≡ writtenInto (rebuilt-of start) new-bytes (start .args .file .now))
     × (last .1 .0 ≡ writtenInto (rebuilt-of start) kept-years (start .args .years .now))))
 said c =
     let fits = start-of c .fits in
-    rw (toZ-ofZ (fits .oldsunstart), toZ-ofZ (fits .oldmoonstart), toZ-ofZ (fits .sunstart), toZ-ofZ (fits .moonstart)) at (c .rebuild .ensures)
+    rw (toZ-ofZ (fits .oldsunstart), toZ-ofZ (fits .oldmoonstart), toZ-ofZ (fits .sunstart), toZ-ofZ (fits .moonstart), toZ-ofZ (fits .zone)) at (c .rebuild .ensures)
 
 rebuild-requires : tie.Need-rebuild-requires
 rebuild-requires c κs = search needs
@@ -48,7 +47,7 @@ rebuilt-record-requires c κs =
     let sun = start .good .1 .1 .1 .1 .1 .1 .1 .1 .0 in
     let moon = start .good .1 .1 .1 .1 .1 .1 .1 .1 .1 .1 .0 in
     rw (said found .0)
-    (rebuild-fits (old-of start) (new-of start) utc8 (start .args .old .now) (length (start .args .file .now)) (length (start .args .years .now)) (record { within = omega arith }) (omega arith) (omega arith))
+    (rebuild-fits (old-of start) (new-of start) (start .args .zone) (start .args .old .now) (length (start .args .file .now)) (length (start .args .years .now)) (omega arith) (omega arith))
 
 tell-requires : tie.Need-tell-requires
 tell-requires c κs = search needs

@@ -5,7 +5,6 @@ use native.Mathlib.Omega.{arith}
 use lib.ListN.{length}
 use mir.Facts.{toZ-ofZ}
 use Rattle.refusals.specs.Verdict.{Verdict}
-use Rattle.clock.specs.Clock.{utc8}
 use Rattle.inputs.specs.Inputs.{Inputs, inputs}
 use Rattle.months.specs.declared.Sui.{Sui}
 use Rattle.months.specs.Answers.{paperSui}
@@ -21,17 +20,17 @@ inputs-of start = let a = start .args in inputs (a .leap .now) (a .sunstart) (a 
 
 -- the sui, as the promise names it
 abbrev given : tie.Start → Verdict Sui
-given start = suiFor (inputs-of start) utc8 (start .args .year)
+given start = suiFor (inputs-of start) (start .args .zone) (start .args .year)
 
 -- what the entry point said, in this function's own words
 said : (c : tie.After-sui) → paperSui (c .sui .result) ≡ given (c .before)
-said c = on-paper (given (c .before)) (let fits = c .before .fits in rw (toZ-ofZ (fits .sunstart), toZ-ofZ (fits .moonstart), toZ-ofZ (fits .year)) at (c .sui .ensures))
+said c = on-paper (given (c .before)) (let fits = c .before .fits in rw (toZ-ofZ (fits .sunstart), toZ-ofZ (fits .moonstart), toZ-ofZ (fits .zone), toZ-ofZ (fits .year)) at (c .sui .ensures))
 
 sui-requires : tie.Need-sui-requires
 sui-requires c κs = search needs
 
 store-requires : tie.Need-store-requires
-store-requires c κs = let start = c .before .before in rw (said (c .before)) (sui-storable (inputs-of start) (omega arith) (omega arith) utc8 (start .args .year))
+store-requires c κs = let start = c .before .before in rw (said (c .before)) (sui-storable (inputs-of start) (omega arith) (omega arith) (start .args .zone) (start .args .year))
 
 tell-requires : tie.Need-tell-requires
 tell-requires c κs = search needs

@@ -11,14 +11,14 @@ use Rattle.exports.proofs.time.hzk_day_of_second.Statement.{statement}
 use Rattle.exports.proofs.time.hzk_day_of_second.Tie as tie
 
 -- what the entry point said, in this function's own words
-said : (c : tie.After-day-of-second) → paperDay (c .day-of-second .result) ≡ dayOfSecond (c .before .args .leap .now) (record { 0 = c .before .args .second })
-said c = rw (toZ-ofZ (c .before .fits .second)) at (c .day-of-second .ensures)
+said : (c : tie.After-day-of-second) → paperDay (c .day-of-second .result) ≡ dayOfSecond (c .before .args .leap .now) (record { 0 = c .before .args .second }) (c .before .args .zone)
+said c = rw (toZ-ofZ (c .before .fits .second), toZ-ofZ (c .before .fits .zone)) at (c .day-of-second .ensures)
 
 day-of-second-requires : tie.Need-day-of-second-requires
 day-of-second-requires c κs = search needs
 
 day-record-requires : tie.Need-day-record-requires
-day-record-requires c κs = rw (said c) (day-of-second-fits (c .before .args .leap .now) (record { 0 = c .before .args .second }))
+day-record-requires c κs = rw (said c) (day-of-second-fits (c .before .args .leap .now) (record { 0 = c .before .args .second }) (c .before .args .zone))
 
 tell-requires : tie.Need-tell-requires
 tell-requires c κs = search needs

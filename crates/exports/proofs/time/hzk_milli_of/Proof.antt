@@ -10,14 +10,14 @@ use Rattle.exports.proofs.time.hzk_milli_of.Statement.{statement}
 use Rattle.exports.proofs.time.hzk_milli_of.Tie as tie
 
 -- what the entry point said, in this function's own words
-said : (c : tie.After-milli-of) → paperMilli (c .milli-of .result) ≡ milliOf (c .before .args .leap .now) (record { 0 = c .before .args .second })
-said c = rw (toZ-ofZ (c .before .fits .second)) at (c .milli-of .ensures)
+said : (c : tie.After-milli-of) → paperMilli (c .milli-of .result) ≡ milliOf (c .before .args .leap .now) (record { 0 = c .before .args .second }) (c .before .args .zone)
+said c = rw (toZ-ofZ (c .before .fits .second), toZ-ofZ (c .before .fits .zone)) at (c .milli-of .ensures)
 
 milli-of-requires : tie.Need-milli-of-requires
 milli-of-requires c κs = search needs
 
 milli-record-requires : tie.Need-milli-record-requires
-milli-record-requires c κs = rw (said c) (milli-fits (c .before .args .leap .now) (record { 0 = c .before .args .second }))
+milli-record-requires c κs = rw (said c) (milli-fits (c .before .args .leap .now) (record { 0 = c .before .args .second }) (c .before .args .zone))
 
 tell-requires : tie.Need-tell-requires
 tell-requires c κs = search needs

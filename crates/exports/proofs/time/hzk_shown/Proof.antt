@@ -10,14 +10,14 @@ use Rattle.exports.proofs.time.hzk_shown.Statement.{statement}
 use Rattle.exports.proofs.time.hzk_shown.Tie as tie
 
 -- what the entry point said, in this function's own words
-said : (c : tie.After-shown) → paperShown (c .shown .result) ≡ shownOf (c .before .args .leap .now) (record { 0 = c .before .args .second })
-said c = rw (toZ-ofZ (c .before .fits .second)) at (c .shown .ensures)
+said : (c : tie.After-shown) → paperShown (c .shown .result) ≡ shownOf (c .before .args .leap .now) (record { 0 = c .before .args .second }) (c .before .args .zone)
+said c = rw (toZ-ofZ (c .before .fits .second), toZ-ofZ (c .before .fits .zone)) at (c .shown .ensures)
 
 shown-requires : tie.Need-shown-requires
 shown-requires c κs = search needs
 
 shown-record-requires : tie.Need-shown-record-requires
-shown-record-requires c κs = rw (said c) (shown-fits (c .before .args .leap .now) (record { 0 = c .before .args .second }))
+shown-record-requires c κs = rw (said c) (shown-fits (c .before .args .leap .now) (record { 0 = c .before .args .second }) (c .before .args .zone))
 
 tell-requires : tie.Need-tell-requires
 tell-requires c κs = search needs

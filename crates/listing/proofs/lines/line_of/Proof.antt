@@ -1,7 +1,6 @@
 -- `listing::lines::line_of` meets its contract. Assumes nothing.
 use Prim.Native.Nat.{ℕ}
 use borrow.Author.Needs.{needs}
-use lib.Dec.{lit≤}
 use lib.IntN.{ℤ, pos}
 use lib.ListN.{getD}
 use lib.Signed.{_<ℤ_}
@@ -11,7 +10,7 @@ use mathlib.Core.Path.{_≡_, ap, _∙_}
 use Rattle.whole.specs.Floor.{floorMod}
 use Rattle.whole.specs.Ranges.{back}
 use Rattle.text.specs.declared.Moment.{Moment}
-use Rattle.clock.specs.Clock.{utc8, shownIn}
+use Rattle.clock.specs.Clock.{shownIn}
 use Rattle.series.specs.declared.Body.{Body}
 use Rattle.series.specs.declared.Body.the-variants.{Sun, Moon}
 use Rattle.series.specs.Bodies.{numbers}
@@ -26,22 +25,22 @@ use Rattle.listed.specs.Listing.{letter, lineOf}
 use Rattle.listing.proofs.lines.line_of.Statement.{statement}
 use Rattle.listing.proofs.lines.line_of.Tie as tie
 
-line : (body : Body) (leap : List ℤ) (m : Mark) {l i : ℕ} {moment : Moment} → l ≡ letter body → i ≡ floorMod (m .index) (numbers body .circle) → moment ≡ momentOf (shownIn leap (second m) utc8) → momentLine l i moment ≡ lineOf body leap m
+line : (body : Body) (leap : List ℤ) (zone : ℤ) (m : Mark) {l i : ℕ} {moment : Moment} → l ≡ letter body → i ≡ floorMod (m .index) (numbers body .circle) → moment ≡ momentOf (shownIn leap (second m) zone) → momentLine l i moment ≡ lineOf body leap zone m
 unfolding lineOf
-line body leap m q r u = rw (q, r, u)
+line body leap zone m q r u = rw (q, r, u)
 
 some-circle : (body : Body) → pos 0 <ℤ pos (numbers body .circle)
 some-circle Sun = record { lt = tt }
 some-circle Moon = record { lt = tt }
 
 nth-after-requires : tie.Need-nth-after-requires
-nth-after-requires c κs = (c .pre .0 .is-accepted, (rw (toZ-ofZ (c .fits .lowest)) (c .pre .1 .0), c .pre .1 .1))
+nth-after-requires c κs = (c .pre .0 .is-accepted, (rw (toZ-ofZ (c .fits .lowest)) (c .pre .1 .0), c .pre .1 .1 .0))
 
 shown-in-requires : tie.Need-shown-in-requires
 shown-in-requires c κs =
     let start = c .before .before in
     let s = series (start .args .body) (start .args .start .0) (start .args .coefs .now) in
-    rw (ap second (c .before .nth-after .ensures)) (nth-readable (start .args .leap .now) s (start .pre .0) (start .args .k) (start .pre .1 .1) utc8 (record { within = lit≤ tt }))
+    rw (ap second (c .before .nth-after .ensures), toZ-ofZ (start .fits .zone)) (nth-readable (start .args .leap .now) s (start .pre .0) (start .args .k) (start .pre .1 .1 .0) (start .args .zone) (start .pre .1 .1 .1))
 
 circle-of-requires : tie.Need-circle-of-requires
 circle-of-requires c κs = search needs
@@ -77,7 +76,7 @@ returns c =
     let is : absolute .absolute .result ≡ floorMod (m .index) (numbers body .circle) =
     rw (back (turn .floor-mod .result) (turn .floor-mod .ok), turn .floor-mod .ensures, back (circle .circle-of .result) (circle .circle-of .ok), back (nth .nth-after .result .index) (told .struct-told .given .0 .1), circle .circle-of .ensures, index) at (absolute .absolute .ensures)
     in
-    line body (start .args .leap .now) m (absolute .before .letter-of .ensures) is (c .moment-of .ensures ∙ ap momentOf (rw there at (shown .shown-in .ensures)))
+    line body (start .args .leap .now) (start .args .zone) m (absolute .before .letter-of .ensures) is (c .moment-of .ensures ∙ ap momentOf (rw (there, toZ-ofZ (start .fits .zone)) at (shown .shown-in .ensures)))
 
 pub line-of-spec : {M : Type 1} → statement M
 line-of-spec =

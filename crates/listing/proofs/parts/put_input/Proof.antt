@@ -1,6 +1,7 @@
 -- `listing::parts::put_input` meets its contract. Assumes nothing.
 use borrow.Author.Needs.{needs}
 use mathlib.Core.Path.{sym, ap}
+use mir.Facts.{toZ-ofZ}
 use Rattle.refusals.specs.Verdict.{answered, accepted-is, refused-first, accepted-first}
 use Rattle.inputs.specs.Inputs.{Inputs, inputs}
 use Rattle.inputs.specs.Theorems.{known}
@@ -28,8 +29,8 @@ unfolding listed
 returns c =
     let told = c .before .before .before .before .before in
     let judged = told .before .before in
-    let i = inputs-of (judged .before .before) in
-    rw (ap printed (sym (refused-first (answered (linesOf i)) (judged .judge .ensures) (told .check .given .1)))) (c .before .before .put-refusal .ensures)
+    let start = judged .before .before in
+    rw (ap printed (sym (refused-first (answered (linesOf (inputs-of start) (start .args .zone))) (judged .judge .ensures) (told .check .given .1)))) (c .before .before .put-refusal .ensures)
 
 enum-told : tie.Need-enum-told
 enum-told c = search needs
@@ -38,7 +39,8 @@ put-lines-requires : tie.Need-put-lines-requires
 put-lines-requires c κs =
     let told = c .before in
     let judged = told .before .before in
-    known (inputs-of (judged .before .before)) (accepted-is (judged .judge .ensures) (told .enum-told .given .1))
+    let start = judged .before .before in
+    rw (toZ-ofZ (start .fits .zone)) (known (inputs-of start) (accepted-is (judged .judge .ensures) (told .enum-told .given .1)), start .pre)
 
 same-length-2 : tie.Need-same-length-2
 same-length-2 c = search needs
@@ -48,8 +50,8 @@ unfolding listed
 returns-2 c =
     let told = c .before .before .before .before in
     let judged = told .before .before in
-    let i = inputs-of (judged .before .before) in
-    rw (ap printed (sym (accepted-first (answered (linesOf i)) (judged .judge .ensures) (told .enum-told .given .1)))) (c .before .before .put-lines .ensures)
+    let start = judged .before .before in
+    rw (ap printed (sym (accepted-first (answered (linesOf (inputs-of start) (start .args .zone))) (judged .judge .ensures) (told .enum-told .given .1)))) (rw (toZ-ofZ (start .fits .zone)) at (c .before .before .put-lines .ensures))
 
 pub put-input-spec : {M : Type 1} → statement M
 put-input-spec =

@@ -15,23 +15,23 @@ add-first c = search needs
 add-behind : tie.Need-add-behind
 add-behind c = search needs
 
-add-t10 : tie.Need-add-t10
-add-t10 c = search needs
+add-t11 : tie.Need-add-t11
+add-t11 c = search needs
 
-mul-t11 : tie.Need-mul-t11
-mul-t11 c = search needs
+mul-t12 : tie.Need-mul-t12
+mul-t12 c = search needs
 
-shared-slice-copy-out-t13 : tie.Need-shared-slice-copy-out-t13
-shared-slice-copy-out-t13 c = search needs
+shared-slice-copy-out-t14 : tie.Need-shared-slice-copy-out-t14
+shared-slice-copy-out-t14 c = search needs
 
-add-t10-2 : tie.Need-add-t10-2
-add-t10-2 c = search needs
+add-t11-2 : tie.Need-add-t11-2
+add-t11-2 c = search needs
 
-mul-t11-2 : tie.Need-mul-t11-2
-mul-t11-2 c = search needs
+mul-t12-2 : tie.Need-mul-t12-2
+mul-t12-2 c = search needs
 
-shared-slice-copy-out-t13-2 : tie.Need-shared-slice-copy-out-t13-2
-shared-slice-copy-out-t13-2 c = search needs
+shared-slice-copy-out-t14-2 : tie.Need-shared-slice-copy-out-t14-2
+shared-slice-copy-out-t14-2 c = search needs
 
 sub-put-input : tie.Need-sub-put-input
 sub-put-input c = search needs
@@ -67,7 +67,7 @@ part-put-input-end-3 : tie.Need-part-put-input-end-3
 part-put-input-end-3 c = search needs
 
 put-input-requires : tie.Need-put-input-requires
-put-input-requires c κs = search needs
+put-input-requires c κs = let start = c .before .before .before .before .before .before .before in rw (toZ-ofZ (start .fits .zone)) (start .pre .1 .1)
 
 same-length : tie.Need-same-length
 same-length c = search needs
@@ -75,9 +75,9 @@ same-length c = search needs
 returns : tie.Need-returns
 returns c =
     let s = c .before .before .before .before .before .before .before .before .before .before in
-    let fs : SFits w64 (getD (s .args .words .now) (s .args .sun + 1) (pos 0)) = record { sfits = c .before .before .before .before .before .before .before .before .t13 .given } in
-    let fm : SFits w64 (getD (s .args .words .now) (s .args .moon + 1) (pos 0)) = record { sfits = c .before .before .before .before .before .before .before .t132 .given } in
-    rw (toZ-ofZ fs, toZ-ofZ fm) at (c .before .before .put-input .ensures)
+    let fs : SFits w64 (getD (s .args .words .now) (s .args .sun + 1) (pos 0)) = record { sfits = c .before .before .before .before .before .before .before .before .t14 .given } in
+    let fm : SFits w64 (getD (s .args .words .now) (s .args .moon + 1) (pos 0)) = record { sfits = c .before .before .before .before .before .before .before .t142 .given } in
+    rw (toZ-ofZ fs, toZ-ofZ fm, toZ-ofZ (s .fits .zone)) at (c .before .before .put-input .ensures)
 
 pub put-sections-spec : {M : Type 1} → statement M
 put-sections-spec =
@@ -85,12 +85,12 @@ put-sections-spec =
     (tie.spec
     add-first
     add-behind
-    add-t10
-    mul-t11
-    shared-slice-copy-out-t13
-    add-t10-2
-    mul-t11-2
-    shared-slice-copy-out-t13-2
+    add-t11
+    mul-t12
+    shared-slice-copy-out-t14
+    add-t11-2
+    mul-t12-2
+    shared-slice-copy-out-t14-2
     sub-put-input
     part-put-input-start
     part-put-input-end

@@ -1,6 +1,7 @@
 -- `listing::parts::put_words` meets its contract. Assumes nothing.
 use borrow.Author.Needs.{needs}
 use mathlib.Core.Path.{sym, ap, _∙_}
+use mir.Facts.{toZ-ofZ}
 use Rattle.layout.specs.Layout.{inputsAt, paperPlaces}
 use Rattle.layout.specs.theory.Sections.{places-inside}
 use Rattle.listed.specs.Listing.{listed, listedWords, printed}
@@ -23,7 +24,7 @@ enum-known-p c = search needs
 put-sections-requires : tie.Need-put-sections-requires
 put-sections-requires c κs =
     let s = c .before .before .before .before .before .before in
-    (places-inside (s .args .words .now) _ (sym (sym (ap paperPlaces (c .before .before .p .given .1)) ∙ c .before .before .before .before .find-places .ensures)), s .pre)
+    (places-inside (s .args .words .now) _ (sym (sym (ap paperPlaces (c .before .before .p .given .1)) ∙ c .before .before .before .before .find-places .ensures)), rw (toZ-ofZ (s .fits .zone)) (s .pre))
 
 same-length : tie.Need-same-length
 same-length c = search needs
@@ -31,8 +32,8 @@ same-length c = search needs
 returns : tie.Need-returns
 unfolding listedWords
 returns c =
-    let ws = c .before .before .before .before .before .before .before .before .before .args .words .now in
-    rw (ap printed (sym (refused-then (λ p. listed (inputsAt ws p)) (sym (ap paperPlaces (c .before .before .before .before .before .r .given .1)) ∙ c .before .before .before .before .before .before .before .find-places .ensures)))) (c .before .before .put-refusal .ensures)
+    let s = c .before .before .before .before .before .before .before .before .before in
+    rw (ap printed (sym (refused-then (λ p. listed (inputsAt (s .args .words .now) p) (s .args .zone)) (sym (ap paperPlaces (c .before .before .before .before .before .r .given .1)) ∙ c .before .before .before .before .before .before .before .find-places .ensures)))) (c .before .before .put-refusal .ensures)
 
 same-length-2 : tie.Need-same-length-2
 same-length-2 c = search needs
@@ -40,8 +41,8 @@ same-length-2 c = search needs
 returns-2 : tie.Need-returns-2
 unfolding listedWords
 returns-2 c =
-    let ws = c .before .before .before .before .before .before .before .before .before .args .words .now in
-    rw (ap printed (sym (answered-then (λ p. listed (inputsAt ws p)) (sym (ap paperPlaces (c .before .before .before .before .before .p .given .1)) ∙ c .before .before .before .before .before .before .before .find-places .ensures)))) (c .before .before .put-sections .ensures)
+    let s = c .before .before .before .before .before .before .before .before .before in
+    rw (ap printed (sym (answered-then (λ p. listed (inputsAt (s .args .words .now) p) (s .args .zone)) (sym (ap paperPlaces (c .before .before .before .before .before .p .given .1)) ∙ c .before .before .before .before .before .before .before .find-places .ensures)))) (rw (toZ-ofZ (s .fits .zone)) at (c .before .before .put-sections .ensures))
 
 pub put-words-spec : {M : Type 1} → statement M
 put-words-spec =

@@ -11,12 +11,12 @@ use Rattle.rebuild_run.proofs.inner.print_rebuilt.Statement.{statement}
 use Rattle.rebuild_run.proofs.inner.print_rebuilt.Tie as tie
 
 -- what was written of the file and of the years is there
-known : (told : tie.After-answer2) → (told .answer2 .given .0 .0 .bytes ≤ length (told .before .before .before .before .rebuild-taken .last .1 .1 .1 .1 .1 .0)) × (told .answer2 .given .0 .0 .years ≤ length (told .before .before .before .before .rebuild-taken .last .1 .1 .1 .1 .1 .1 .0))
+known : (told : tie.After-answer2) → (told .answer2 .given .0 .0 .bytes ≤ length (told .before .before .before .before .rebuild-taken .last .1 .1 .1 .1 .1 .1 .0)) × (told .answer2 .given .0 .0 .years ≤ length (told .before .before .before .before .rebuild-taken .last .1 .1 .1 .1 .1 .1 .1 .0))
 known told =
     let made = told .before .before .before .before in
     let a = made .before .before .before .before .before .before .args in
     let e = made .rebuild-taken .ensures in
-    new-inside (rebuiltFromTaken (a .old .now) (a .oldwords .now) (a .oldbytes) (a .words .now) (a .bytes) _ _) _ _ (sym (ap paperRebuilt (told .answer2 .given .1)) ∙ e .0, e .1)
+    new-inside (rebuiltFromTaken (a .old .now) (a .oldwords .now) (a .oldbytes) (a .words .now) (a .bytes) _ _ _) _ _ (sym (ap paperRebuilt (told .answer2 .given .1)) ∙ e .0, e .1)
 
 file-room-requires : tie.Need-file-room-requires
 file-room-requires c κs = search needs

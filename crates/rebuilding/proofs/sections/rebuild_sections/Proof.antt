@@ -25,23 +25,23 @@ add-oldfirst c = search needs
 add-oldbehind : tie.Need-add-oldbehind
 add-oldbehind c = search needs
 
-add-t20 : tie.Need-add-t20
-add-t20 c = search needs
+add-t21 : tie.Need-add-t21
+add-t21 c = search needs
 
-mul-t21 : tie.Need-mul-t21
-mul-t21 c = search needs
+mul-t22 : tie.Need-mul-t22
+mul-t22 c = search needs
 
-shared-slice-copy-out-t23 : tie.Need-shared-slice-copy-out-t23
-shared-slice-copy-out-t23 c = search needs
+shared-slice-copy-out-t24 : tie.Need-shared-slice-copy-out-t24
+shared-slice-copy-out-t24 c = search needs
 
-add-t20-2 : tie.Need-add-t20-2
-add-t20-2 c = search needs
+add-t21-2 : tie.Need-add-t21-2
+add-t21-2 c = search needs
 
-mul-t21-2 : tie.Need-mul-t21-2
-mul-t21-2 c = search needs
+mul-t22-2 : tie.Need-mul-t22-2
+mul-t22-2 c = search needs
 
-shared-slice-copy-out-t23-2 : tie.Need-shared-slice-copy-out-t23-2
-shared-slice-copy-out-t23-2 c = search needs
+shared-slice-copy-out-t24-2 : tie.Need-shared-slice-copy-out-t24-2
+shared-slice-copy-out-t24-2 c = search needs
 
 add-first : tie.Need-add-first
 add-first c = search needs
@@ -49,23 +49,23 @@ add-first c = search needs
 add-behind : tie.Need-add-behind
 add-behind c = search needs
 
-add-t20-3 : tie.Need-add-t20-3
-add-t20-3 c = search needs
+add-t21-3 : tie.Need-add-t21-3
+add-t21-3 c = search needs
 
-mul-t21-3 : tie.Need-mul-t21-3
-mul-t21-3 c = search needs
+mul-t22-3 : tie.Need-mul-t22-3
+mul-t22-3 c = search needs
 
-shared-slice-copy-out-t23-3 : tie.Need-shared-slice-copy-out-t23-3
-shared-slice-copy-out-t23-3 c = search needs
+shared-slice-copy-out-t24-3 : tie.Need-shared-slice-copy-out-t24-3
+shared-slice-copy-out-t24-3 c = search needs
 
-add-t20-4 : tie.Need-add-t20-4
-add-t20-4 c = search needs
+add-t21-4 : tie.Need-add-t21-4
+add-t21-4 c = search needs
 
-mul-t21-4 : tie.Need-mul-t21-4
-mul-t21-4 c = search needs
+mul-t22-4 : tie.Need-mul-t22-4
+mul-t22-4 c = search needs
 
-shared-slice-copy-out-t23-4 : tie.Need-shared-slice-copy-out-t23-4
-shared-slice-copy-out-t23-4 c = search needs
+shared-slice-copy-out-t24-4 : tie.Need-shared-slice-copy-out-t24-4
+shared-slice-copy-out-t24-4 c = search needs
 
 sub-rebuild : tie.Need-sub-rebuild
 sub-rebuild c = search needs
@@ -149,12 +149,13 @@ returns c =
     let sun = moon .before in
     let oldmoon = sun .before in
     let oldsun = oldmoon .before in
-    let a = oldsun .before .before .before .args in
-    let os : SFits w64 (getD (a .oldwords .now) (a .oldplaces .sun + 1) (pos 0)) = record { sfits = oldsun .t23 .given } in
-    let om : SFits w64 (getD (a .oldwords .now) (a .oldplaces .moon + 1) (pos 0)) = record { sfits = oldmoon .t232 .given } in
-    let fs : SFits w64 (getD (a .words .now) (a .places .sun + 1) (pos 0)) = record { sfits = sun .t233 .given } in
-    let fm : SFits w64 (getD (a .words .now) (a .places .moon + 1) (pos 0)) = record { sfits = moon .t234 .given } in
-    by-inputs (a .old .now) (a .file .now) (a .years .now) (read-back (a .oldwords .now) (a .oldplaces) os om) (read-back (a .words .now) (a .places) fs fm) (made .rebuild .ensures)
+    let start = oldsun .before .before .before in
+    let a = start .args in
+    let os : SFits w64 (getD (a .oldwords .now) (a .oldplaces .sun + 1) (pos 0)) = record { sfits = oldsun .t24 .given } in
+    let om : SFits w64 (getD (a .oldwords .now) (a .oldplaces .moon + 1) (pos 0)) = record { sfits = oldmoon .t242 .given } in
+    let fs : SFits w64 (getD (a .words .now) (a .places .sun + 1) (pos 0)) = record { sfits = sun .t243 .given } in
+    let fm : SFits w64 (getD (a .words .now) (a .places .moon + 1) (pos 0)) = record { sfits = moon .t244 .given } in
+    by-inputs (a .zone) (a .old .now) (a .file .now) (a .years .now) (read-back (a .oldwords .now) (a .oldplaces) os om) (read-back (a .words .now) (a .places) fs fm) (rw (toZ-ofZ (start .fits .zone)) at (made .rebuild .ensures))
 
 pub rebuild-sections-spec : {M : Type 1} → statement M
 rebuild-sections-spec =
@@ -162,20 +163,20 @@ rebuild-sections-spec =
     (tie.spec
     add-oldfirst
     add-oldbehind
-    add-t20
-    mul-t21
-    shared-slice-copy-out-t23
-    add-t20-2
-    mul-t21-2
-    shared-slice-copy-out-t23-2
+    add-t21
+    mul-t22
+    shared-slice-copy-out-t24
+    add-t21-2
+    mul-t22-2
+    shared-slice-copy-out-t24-2
     add-first
     add-behind
-    add-t20-3
-    mul-t21-3
-    shared-slice-copy-out-t23-3
-    add-t20-4
-    mul-t21-4
-    shared-slice-copy-out-t23-4
+    add-t21-3
+    mul-t22-3
+    shared-slice-copy-out-t24-3
+    add-t21-4
+    mul-t22-4
+    shared-slice-copy-out-t24-4
     sub-rebuild
     part-rebuild-start
     part-rebuild-end
