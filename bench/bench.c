@@ -165,8 +165,8 @@ static int race_series(const series *s) {
 static month found_months[4][13];
 
 static int64_t proved_sui(inputs *in, int64_t year, month *out) {
-    int64_t number = hzk_sui(in->leap, in->n, in->body[0].start, in->body[0].coefs, in->body[0].count, in->body[1].start, in->body[1].coefs, in->body[1].count, year,
-                             (int64_t *)out, 39, &answer);
+    int64_t number = hzk_sui(in->leap, in->n, in->body[0].start, in->body[0].coefs, in->body[0].count, in->body[1].start, in->body[1].coefs, in->body[1].count,
+                             HZK_UTC8, year, (int64_t *)out, 39, &answer);
     return number ? -number : answer.value[0];
 }
 
@@ -218,7 +218,7 @@ static int64_t build_by(int k, inputs *in, int64_t first, int64_t count, size_t 
     if (k == 3) return plain_build(in, 0, first, count, files[3], room);
     if (k == 4) return lent_build(in, 1, first, count, files[4], room);
     int64_t number = hzk_build(in->leap, in->n, in->body[0].start, in->body[0].coefs, in->body[0].count, in->body[1].start, in->body[1].coefs, in->body[1].count,
-                               first, count, files[0], room, &answer);
+                               HZK_UTC8, first, count, files[0], room, &answer);
     return number ? -number : answer.value[0];
 }
 
@@ -282,8 +282,8 @@ static int64_t kept_years[MOST_SUIS + 2];
 static int64_t rebuild_by(const inputs *old, size_t size, const inputs *in, size_t room, size_t places) {
     const series *sun = in->body, *moon = in->body + 1, *old_sun = old->body, *old_moon = old->body + 1;
     int64_t number = hzk_rebuild(files[1], size, old->leap, old->n, old_sun->start, old_sun->coefs, old_sun->count, old_moon->start, old_moon->coefs, old_moon->count,
-                                 in->leap, in->n, sun->start, sun->coefs, sun->count, moon->start, moon->coefs, moon->count, files[0], room, kept_years, places,
-                                 &answer);
+                                 in->leap, in->n, sun->start, sun->coefs, sun->count, moon->start, moon->coefs, moon->count, HZK_UTC8, files[0], room, kept_years,
+                                 places, &answer);
     return number ? -number : answer.value[0];
 }
 

@@ -70,10 +70,10 @@ static const int64_t zhongqi[13] = {20, 50, 81, 111, 142, 172, 203, 233, 264, 29
 static int64_t date_of(void) { return hzk_date_of(8846, &answer); }
 static int64_t day_of(void) { return hzk_day_of(2024, 3, 21, &answer); }
 static int64_t judge_leap_table(void) { return hzk_judge_leap_table(in.leap, 2 * LEAP, &answer); }
-static int64_t milli_of(void) { return hzk_milli_of(in.leap, 2 * LEAP, -836107, &answer); }
-static int64_t day_of_second(void) { return hzk_day_of_second(in.leap, 2 * LEAP, -836107, &answer); }
+static int64_t milli_of(void) { return hzk_milli_of(in.leap, 2 * LEAP, -836107, HZK_UTC8, &answer); }
+static int64_t day_of_second(void) { return hzk_day_of_second(in.leap, 2 * LEAP, -836107, HZK_UTC8, &answer); }
 static int64_t day_of_milli(void) { return hzk_day_of_milli(-1, &answer); }
-static int64_t shown(void) { return hzk_shown(in.leap, 2 * LEAP, -836107, &answer); }
+static int64_t shown(void) { return hzk_shown(in.leap, 2 * LEAP, -836107, HZK_UTC8, &answer); }
 static int64_t accept_sun(void) { return hzk_accept(SUN_SERIES, &answer); }
 static int64_t accept_moon(void) { return hzk_accept(MOON_SERIES, &answer); }
 static int64_t replace_in_sun(void) { return hzk_replace_segment(HZK_SUN, in.sun_start, in.sun, 14 * SUN, SUN - 1, last_sun, &answer); }
@@ -87,12 +87,12 @@ static int64_t list_of_moon(void) { return hzk_list_marks(MOON_SERIES, marks, 2 
 static int64_t walk_of_moon(void) { return hzk_walk_marks(HZK_MOON, in.moon_start, in.moon, 14, marks, 2 * MARKS, &answer); } /* a whole series takes minutes */
 static int64_t judge_inputs(void) { return hzk_judge_inputs(INPUTS, &answer); }
 static int64_t months_of(void) { return hzk_months_of(2033, new_moons, 15, zhongqi, 13, months, 39, &answer); }
-static int64_t sui(void) { return hzk_sui(INPUTS, 2027, months, 39, &answer); }
+static int64_t sui(void) { return hzk_sui(INPUTS, HZK_UTC8, 2027, months, 39, &answer); }
 static int64_t check_file(void) { return hzk_check_file(file, bytes, &answer); }
 static int64_t read_file(void) { return hzk_read_file(file, bytes, leap, 2 * LEAP, suis, 2 * SUIS, months, 39 * SUIS, &answer); }
 static int64_t write_file(void) { return hzk_write_file(leap, entries, suis, sui_count, months, month_count, written, sizeof written, &answer); }
-static int64_t build(void) { return hzk_build(INPUTS, FIRST, SUIS, file, sizeof file, &answer); }
-static int64_t rebuild(void) { return hzk_rebuild(file, bytes, INPUTS, INPUTS, written, sizeof written, years, SUIS, &answer); }
+static int64_t build(void) { return hzk_build(INPUTS, HZK_UTC8, FIRST, SUIS, file, sizeof file, &answer); }
+static int64_t rebuild(void) { return hzk_rebuild(file, bytes, INPUTS, INPUTS, HZK_UTC8, written, sizeof written, years, SUIS, &answer); }
 
 /* ---- a stack of its own */
 #define ROOM (1L << 22)

@@ -26,7 +26,7 @@ static void check(const char *what, bool holds) {
 #define UNTOUCHED 0x5A5A5A5A5A5A5A5A
 
 static struct { int64_t before; hzk_answer answer; int64_t behind; } told;
-static bool seen[14];
+static bool seen[16];
 
 static hzk_answer *fresh(void) {
     told.before = told.behind = told.answer.number = told.answer.segment = UNTOUCHED;
@@ -126,18 +126,18 @@ static void clocks(void) {
     expect("leap table of offset 1000", hzk_judge_leap_table(LIST(0, 1000), fresh()), ACCEPTED);
     expect("leap table of offset 1001", hzk_judge_leap_table(LIST(0, 1001), fresh()), REFUSED(1));
 
-    expect("millisecond of the solstice", hzk_milli_of(LIST(-365, 32), -836107, fresh()), ANSWERED(-807371184));
-    expect("millisecond of the first second", hzk_milli_of(LIST(-365, 32), -31535935, fresh()), ANSWERED(-31507199184));
-    expect("millisecond before the first entry", hzk_milli_of(LIST(-365, 32), -31535936, fresh()), REFUSED(7));
-    expect("millisecond of the last second", hzk_milli_of(LIST(-365, 32), 16000000000, fresh()), ANSWERED(16000028735816));
-    expect("millisecond behind the last second", hzk_milli_of(LIST(-365, 32), 16000000001, fresh()), REFUSED(6));
-    expect("millisecond before the range, 6 before 7", hzk_milli_of(LIST(-365, 32), -10000000001, fresh()), REFUSED(6));
-    expect("millisecond by no table, 1 before 6", hzk_milli_of(NO_WORDS, INT64_MIN, fresh()), REFUSED(1));
+    expect("millisecond of the solstice", hzk_milli_of(LIST(-365, 32), -836107, HZK_UTC8, fresh()), ANSWERED(-807371184));
+    expect("millisecond of the first second", hzk_milli_of(LIST(-365, 32), -31535935, HZK_UTC8, fresh()), ANSWERED(-31507199184));
+    expect("millisecond before the first entry", hzk_milli_of(LIST(-365, 32), -31535936, HZK_UTC8, fresh()), REFUSED(7));
+    expect("millisecond of the last second", hzk_milli_of(LIST(-365, 32), 16000000000, HZK_UTC8, fresh()), ANSWERED(16000028735816));
+    expect("millisecond behind the last second", hzk_milli_of(LIST(-365, 32), 16000000001, HZK_UTC8, fresh()), REFUSED(6));
+    expect("millisecond before the range, 6 before 7", hzk_milli_of(LIST(-365, 32), -10000000001, HZK_UTC8, fresh()), REFUSED(6));
+    expect("millisecond by no table, 1 before 6", hzk_milli_of(NO_WORDS, INT64_MIN, HZK_UTC8, fresh()), REFUSED(1));
 
-    expect("day of the solstice", hzk_day_of_second(LIST(-365, 32), -836107, fresh()), ANSWERED(-10));
-    expect("day before the first entry", hzk_day_of_second(LIST(-365, 32), -31535936, fresh()), REFUSED(7));
-    expect("day of the largest second", hzk_day_of_second(LIST(-365, 32), INT64_MAX, fresh()), REFUSED(6));
-    expect("day by three words", hzk_day_of_second(LIST(-365, 32, 1), 0, fresh()), REFUSED(1));
+    expect("day of the solstice", hzk_day_of_second(LIST(-365, 32), -836107, HZK_UTC8, fresh()), ANSWERED(-10));
+    expect("day before the first entry", hzk_day_of_second(LIST(-365, 32), -31535936, HZK_UTC8, fresh()), REFUSED(7));
+    expect("day of the largest second", hzk_day_of_second(LIST(-365, 32), INT64_MAX, HZK_UTC8, fresh()), REFUSED(6));
+    expect("day by three words", hzk_day_of_second(LIST(-365, 32, 1), 0, HZK_UTC8, fresh()), REFUSED(1));
 
     expect("day of millisecond 0", hzk_day_of_milli(0, fresh()), ANSWERED(0));
     expect("day of millisecond -1", hzk_day_of_milli(-1, fresh()), ANSWERED(-1));
@@ -146,11 +146,11 @@ static void clocks(void) {
     expect("day of the least millisecond", hzk_day_of_milli(INT64_MIN, fresh()), ANSWERED(-106751991168));
     expect("day of the largest millisecond", hzk_day_of_milli(INT64_MAX, fresh()), ANSWERED(106751991167));
 
-    expect("the solstice shown", hzk_shown(LIST(-365, 32), -836107, fresh()), ANSWERED(1999, 12, 22, 15, 43, 48, 816));
-    expect("a mark of the worked listing shown", hzk_shown(LIST(-365, 32), 2700000, fresh()), ANSWERED(2000, 2, 1, 13, 58, 55, 816));
-    expect("shown before the first entry", hzk_shown(LIST(-365, 32), -31535936, fresh()), REFUSED(7));
-    expect("shown behind the last second", hzk_shown(LIST(-365, 32), 16000000001, fresh()), REFUSED(6));
-    expect("shown by no table", hzk_shown(NO_WORDS, 0, fresh()), REFUSED(1));
+    expect("the solstice shown", hzk_shown(LIST(-365, 32), -836107, HZK_UTC8, fresh()), ANSWERED(1999, 12, 22, 15, 43, 48, 816));
+    expect("a mark of the worked listing shown", hzk_shown(LIST(-365, 32), 2700000, HZK_UTC8, fresh()), ANSWERED(2000, 2, 1, 13, 58, 55, 816));
+    expect("shown before the first entry", hzk_shown(LIST(-365, 32), -31535936, HZK_UTC8, fresh()), REFUSED(7));
+    expect("shown behind the last second", hzk_shown(LIST(-365, 32), 16000000001, HZK_UTC8, fresh()), REFUSED(6));
+    expect("shown by no table", hzk_shown(NO_WORDS, 0, HZK_UTC8, fresh()), REFUSED(1));
 }
 
 /* ---- inserted seconds: 2016-12-31 23:59:60 UTC, and both sides of it */
@@ -165,7 +165,7 @@ static bool ticks(void) {
     for (int64_t tdb = 65; tdb < 65 + 4 * 86400 + 60; tdb++) {
         hzk_answer date, shown, of;
         hzk_date_of(day, &date);
-        if (hzk_shown(table, 128, tdb, &shown) != 0 || hzk_day_of_second(table, 128, tdb, &of) != 0) return false;
+        if (hzk_shown(table, 128, tdb, HZK_UTC8, &shown) != 0 || hzk_day_of_second(table, 128, tdb, HZK_UTC8, &of) != 0) return false;
         const int64_t wanted[] = {date.value[0], date.value[1], date.value[2], hour, minute, second, 816};
         if (memcmp(shown.value, wanted, sizeof wanted) != 0 || of.value[0] != day) return false;
         int64_t last = hour == 7 && minute == 59 && day % 4 != 3 ? 60 : 59;
@@ -180,15 +180,15 @@ static bool ticks(void) {
 }
 
 static void inserted(void) {
-    expect("shown before an inserted second", hzk_shown(LIST(REAL_LEAP), 536544068, fresh()), ANSWERED(2017, 1, 1, 7, 59, 59, 816));
-    expect("shown inside it", hzk_shown(LIST(REAL_LEAP), 536544069, fresh()), ANSWERED(2017, 1, 1, 7, 59, 60, 816));
-    expect("shown after it", hzk_shown(LIST(REAL_LEAP), 536544070, fresh()), ANSWERED(2017, 1, 1, 8, 0, 0, 816));
-    expect("millisecond before an inserted second", hzk_milli_of(LIST(REAL_LEAP), 536544068, fresh()), ANSWERED(536572799816));
-    expect("millisecond inside it", hzk_milli_of(LIST(REAL_LEAP), 536544069, fresh()), ANSWERED(536572800816));
-    expect("millisecond after it", hzk_milli_of(LIST(REAL_LEAP), 536544070, fresh()), ANSWERED(536572800816));
-    expect("day inside an inserted second", hzk_day_of_second(LIST(REAL_LEAP), 536544069, fresh()), ANSWERED(6210));
-    expect("shown in the second before the first entry", hzk_shown(LIST(6210, 37), 536544069, fresh()), REFUSED(7));
-    expect("shown in the first second of the first entry", hzk_shown(LIST(6210, 37), 536544070, fresh()), ANSWERED(2017, 1, 1, 8, 0, 0, 816));
+    expect("shown before an inserted second", hzk_shown(LIST(REAL_LEAP), 536544068, HZK_UTC8, fresh()), ANSWERED(2017, 1, 1, 7, 59, 59, 816));
+    expect("shown inside it", hzk_shown(LIST(REAL_LEAP), 536544069, HZK_UTC8, fresh()), ANSWERED(2017, 1, 1, 7, 59, 60, 816));
+    expect("shown after it", hzk_shown(LIST(REAL_LEAP), 536544070, HZK_UTC8, fresh()), ANSWERED(2017, 1, 1, 8, 0, 0, 816));
+    expect("millisecond before an inserted second", hzk_milli_of(LIST(REAL_LEAP), 536544068, HZK_UTC8, fresh()), ANSWERED(536572799816));
+    expect("millisecond inside it", hzk_milli_of(LIST(REAL_LEAP), 536544069, HZK_UTC8, fresh()), ANSWERED(536572800816));
+    expect("millisecond after it", hzk_milli_of(LIST(REAL_LEAP), 536544070, HZK_UTC8, fresh()), ANSWERED(536572800816));
+    expect("day inside an inserted second", hzk_day_of_second(LIST(REAL_LEAP), 536544069, HZK_UTC8, fresh()), ANSWERED(6210));
+    expect("shown in the second before the first entry", hzk_shown(LIST(6210, 37), 536544069, HZK_UTC8, fresh()), REFUSED(7));
+    expect("shown in the first second of the first entry", hzk_shown(LIST(6210, 37), 536544070, HZK_UTC8, fresh()), ANSWERED(2017, 1, 1, 8, 0, 0, 816));
     check("every second of four days and a minute, as a clock ticks", ticks());
 }
 
@@ -436,17 +436,17 @@ static void rebuilds(uint8_t *old, size_t bytes) {
     int64_t part[14], years[30], kept[26];
     for (int i = 0; i < 30; i++) years[i] = in.first + i;
 
-    expect("rebuild from unchanged inputs", hzk_rebuild(old, bytes, SERIES, SERIES, lend_file(), bytes, lend(&first_list), 30, fresh()), ANSWERED((int64_t)bytes, 30));
+    expect("rebuild from unchanged inputs", hzk_rebuild(old, bytes, SERIES, SERIES, HZK_UTC8, lend_file(), bytes, lend(&first_list), 30, fresh()), ANSWERED((int64_t)bytes, 30));
     file_holds("the old file", old, bytes);
     holds("all its years", &first_list, years, 30);
-    expect("rebuild into more room", hzk_rebuild(old, bytes, SERIES, SERIES, lend_file(), 16140, lend(&first_list), 128, fresh()), ANSWERED((int64_t)bytes, 30));
+    expect("rebuild into more room", hzk_rebuild(old, bytes, SERIES, SERIES, HZK_UTC8, lend_file(), 16140, lend(&first_list), 128, fresh()), ANSWERED((int64_t)bytes, 30));
     file_holds("the old file, and no more", old, bytes);
     holds("all its years, and no more", &first_list, years, 30);
 
-    expect("rebuild into a byte less", hzk_rebuild(old, bytes, SERIES, SERIES, lend_file(), bytes - 1, lend(&first_list), 30, fresh()), REFUSED(12));
+    expect("rebuild into a byte less", hzk_rebuild(old, bytes, SERIES, SERIES, HZK_UTC8, lend_file(), bytes - 1, lend(&first_list), 30, fresh()), REFUSED(12));
     file_holds("nothing rebuilt", NULL, 0);
     untouched("nothing listed", &first_list);
-    expect("rebuild into a year less", hzk_rebuild(old, bytes, SERIES, SERIES, lend_file(), bytes, lend(&first_list), 29, fresh()), REFUSED(12));
+    expect("rebuild into a year less", hzk_rebuild(old, bytes, SERIES, SERIES, HZK_UTC8, lend_file(), bytes, lend(&first_list), 29, fresh()), REFUSED(12));
     file_holds("nothing rebuilt", NULL, 0);
     untouched("nothing listed", &first_list);
 
@@ -456,8 +456,8 @@ static void rebuilds(uint8_t *old, size_t bytes) {
     part[0]++;
     expect("a Moon segment corrected", hzk_replace_segment(HZK_MOON, in.moon_start, moon, in.moon_words, 1380, part, fresh()), ACCEPTED);
     check("another Moon", memcmp(moon, in.moon, in.moon_words * sizeof moon[0]) != 0);
-    expect("build from it", hzk_build(CORRECTED(moon), in.first, in.count, built, sizeof built, fresh()), ANSWERED((int64_t)bytes));
-    expect("rebuild from it", hzk_rebuild(old, bytes, SERIES, CORRECTED(moon), lend_file(), 16140, lend(&first_list), 128, fresh()), ANSWERED((int64_t)bytes, 30));
+    expect("build from it", hzk_build(CORRECTED(moon), HZK_UTC8, in.first, in.count, built, sizeof built, fresh()), ANSWERED((int64_t)bytes));
+    expect("rebuild from it", hzk_rebuild(old, bytes, SERIES, CORRECTED(moon), HZK_UTC8, lend_file(), 16140, lend(&first_list), 128, fresh()), ANSWERED((int64_t)bytes, 30));
     file_holds("the file that is built", built, bytes);
     holds("all its years", &first_list, years, 30);
 
@@ -465,27 +465,73 @@ static void rebuilds(uint8_t *old, size_t bytes) {
     for (size_t i = 0; i < in.moon_words; i += 14) moon[i] += 3000000;
     for (int i = 0, n = 0; i < 30; i++)
         if (years[i] != 2006 && years[i] != 2009 && years[i] != 2018 && years[i] != 2019) kept[n++] = years[i];
-    expect("build from a Moon ahead", hzk_build(CORRECTED(moon), in.first, in.count, built, sizeof built, fresh()), ANSWERED((int64_t)bytes));
-    expect("rebuild from it", hzk_rebuild(old, bytes, SERIES, CORRECTED(moon), lend_file(), 16140, lend(&first_list), 26, fresh()), ANSWERED((int64_t)bytes, 26));
+    expect("build from a Moon ahead", hzk_build(CORRECTED(moon), HZK_UTC8, in.first, in.count, built, sizeof built, fresh()), ANSWERED((int64_t)bytes));
+    expect("rebuild from it", hzk_rebuild(old, bytes, SERIES, CORRECTED(moon), HZK_UTC8, lend_file(), 16140, lend(&first_list), 26, fresh()), ANSWERED((int64_t)bytes, 26));
     file_holds("the file that is built", built, bytes);
     holds("the other years", &first_list, kept, 26);
-    expect("rebuild back", hzk_rebuild(built, bytes, CORRECTED(moon), SERIES, lend_file(), 16140, lend(&first_list), 26, fresh()), ANSWERED((int64_t)bytes, 26));
+    expect("rebuild back", hzk_rebuild(built, bytes, CORRECTED(moon), SERIES, HZK_UTC8, lend_file(), 16140, lend(&first_list), 26, fresh()), ANSWERED((int64_t)bytes, 26));
     file_holds("the old file", old, bytes);
     holds("the same years", &first_list, kept, 26);
-    expect("rebuild back into a year less", hzk_rebuild(built, bytes, CORRECTED(moon), SERIES, lend_file(), 16140, lend(&first_list), 25, fresh()), REFUSED(12));
+    expect("rebuild back into a year less", hzk_rebuild(built, bytes, CORRECTED(moon), SERIES, HZK_UTC8, lend_file(), 16140, lend(&first_list), 25, fresh()), REFUSED(12));
     file_holds("nothing rebuilt", NULL, 0);
     untouched("nothing listed", &first_list);
 
     /* 13 before all else; then as a build refuses */
-    expect("rebuild another's file", hzk_rebuild(built, bytes, SERIES, SERIES, lend_file(), 16140, lend(&first_list), 128, fresh()), REFUSED(13));
+    expect("rebuild another's file", hzk_rebuild(built, bytes, SERIES, SERIES, HZK_UTC8, lend_file(), 16140, lend(&first_list), 128, fresh()), REFUSED(13));
     old[bytes - 1] ^= 3;
-    expect("rebuild a damaged file, 13 before 1 and 12", hzk_rebuild(old, bytes, SERIES, NO_WORDS, in.sun_start, in.sun, in.sun_words, in.moon_start, in.moon, in.moon_words, lend_file(), 0, lend(&first_list), 0, fresh()), REFUSED(13));
+    expect("rebuild a damaged file, 13 before 1 and 12", hzk_rebuild(old, bytes, SERIES, NO_WORDS, in.sun_start, in.sun, in.sun_words, in.moon_start, in.moon, in.moon_words, HZK_UTC8, lend_file(), 0, lend(&first_list), 0, fresh()), REFUSED(13));
     old[bytes - 1] ^= 3;
-    expect("rebuild a file without its last byte", hzk_rebuild(old, bytes - 1, SERIES, SERIES, lend_file(), 16140, lend(&first_list), 128, fresh()), REFUSED(13));
-    expect("rebuild by an old Sun cut short", hzk_rebuild(old, bytes, in.leap, in.leap_words, in.sun_start, in.sun, in.sun_words - 1, in.moon_start, in.moon, in.moon_words, SERIES, lend_file(), 16140, lend(&first_list), 128, fresh()), REFUSED(13));
-    expect("rebuild from a Sun cut short", hzk_rebuild(old, bytes, SERIES, in.leap, in.leap_words, in.sun_start, in.sun, in.sun_words - 1, in.moon_start, in.moon, in.moon_words, lend_file(), 16140, lend(&first_list), 128, fresh()), REFUSED(2));
+    expect("rebuild a file without its last byte", hzk_rebuild(old, bytes - 1, SERIES, SERIES, HZK_UTC8, lend_file(), 16140, lend(&first_list), 128, fresh()), REFUSED(13));
+    expect("rebuild by an old Sun cut short", hzk_rebuild(old, bytes, in.leap, in.leap_words, in.sun_start, in.sun, in.sun_words - 1, in.moon_start, in.moon, in.moon_words, SERIES, HZK_UTC8, lend_file(), 16140, lend(&first_list), 128, fresh()), REFUSED(13));
+    expect("rebuild from a Sun cut short", hzk_rebuild(old, bytes, SERIES, in.leap, in.leap_words, in.sun_start, in.sun, in.sun_words - 1, in.moon_start, in.moon, in.moon_words, HZK_UTC8, lend_file(), 16140, lend(&first_list), 128, fresh()), REFUSED(2));
     moon[14 * 1380] += 100000;
-    expect("rebuild from a bad joint, 5 before 12", hzk_rebuild(old, bytes, SERIES, CORRECTED(moon), lend_file(), 0, lend(&first_list), 0, fresh()), REFUSED_AT(5, 1380));
+    expect("rebuild from a bad joint, 5 before 12", hzk_rebuild(old, bytes, SERIES, CORRECTED(moon), HZK_UTC8, lend_file(), 0, lend(&first_list), 0, fresh()), REFUSED_AT(5, 1380));
+    file_holds("nothing rebuilt", NULL, 0);
+    untouched("nothing listed", &first_list);
+}
+
+/* ---- zones: both ends, 15 before all else; an inserted second in zone 0; and the suis of 1985, whose new year China kept on 1985-02-20 and Vietnam on 1985-01-21 */
+static void zones(const char *folder) {
+    expect("millisecond in UTC", hzk_milli_of(LIST(-365, 32), 0, 0, fresh()), ANSWERED(-64184));
+    expect("millisecond in the last zone", hzk_milli_of(LIST(-365, 32), 0, 840, fresh()), ANSWERED(50335816));
+    expect("millisecond behind it", hzk_milli_of(LIST(-365, 32), 0, 841, fresh()), REFUSED(15));
+    expect("millisecond in the first zone", hzk_milli_of(LIST(-365, 32), 0, -720, fresh()), ANSWERED(-43264184));
+    expect("millisecond before it", hzk_milli_of(LIST(-365, 32), 0, -721, fresh()), REFUSED(15));
+    expect("millisecond in the largest number, 15 before 1", hzk_milli_of(NO_WORDS, 0, INT64_MAX, fresh()), REFUSED(15));
+    expect("day of the last second of 1999 in UTC+7", hzk_day_of_second(LIST(-365, 32), -25136, 420, fresh()), ANSWERED(-1));
+    expect("day of the next second", hzk_day_of_second(LIST(-365, 32), -25135, 420, fresh()), ANSWERED(0));
+    expect("day of that second in UTC+8", hzk_day_of_second(LIST(-365, 32), -25136, HZK_UTC8, fresh()), ANSWERED(0));
+    expect("day behind the last zone, 15 before 6", hzk_day_of_second(LIST(-365, 32), INT64_MAX, 841, fresh()), REFUSED(15));
+    expect("shown in the first zone", hzk_shown(LIST(-365, 32), 0, -720, fresh()), ANSWERED(1999, 12, 31, 11, 58, 55, 816));
+    expect("shown before it, 15 before 7", hzk_shown(LIST(-365, 32), -31535936, -721, fresh()), REFUSED(15));
+
+    expect("shown inside an inserted second in UTC", hzk_shown(LIST(REAL_LEAP), 536544069, 0, fresh()), ANSWERED(2016, 12, 31, 23, 59, 60, 816));
+    expect("shown after it", hzk_shown(LIST(REAL_LEAP), 536544070, 0, fresh()), ANSWERED(2017, 1, 1, 0, 0, 0, 816));
+    expect("its day in UTC", hzk_day_of_second(LIST(REAL_LEAP), 536544069, 0, fresh()), ANSWERED(6209));
+    expect("the day after it", hzk_day_of_second(LIST(REAL_LEAP), 536544070, 0, fresh()), ANSWERED(6210));
+
+    static uint8_t built[2][16140];
+    int64_t bytes[2];
+    take(folder, "real_1985");
+    expect("sui 1985 in UTC+8", hzk_sui(SERIES, HZK_UTC8, 1985, lend(&first_list), 39, fresh()), ANSWERED(12));
+    holds("China's months", &first_list, LIST(63542, -5488, 30, 63544, -5458, 30, 63522, -5428, 29, 63524, -5399, 30, 63526, -5369, 30, 63528, -5339, 29, 63530, -5310, 30, 63532, -5280, 29, 63534, -5251, 30, 63536, -5221, 29, 63538, -5192, 29, 63540, -5163, 30));
+    expect("sui 1985 in UTC+7", hzk_sui(SERIES, 420, 1985, lend(&first_list), 39, fresh()), ANSWERED(13));
+    holds("Vietnam's months", &first_list, LIST(63542, -5517, 29, 63544, -5488, 30, 63522, -5458, 30, 63524, -5428, 29, 63525, -5399, 30, 63526, -5369, 30, 63528, -5339, 29, 63530, -5310, 30, 63532, -5280, 29, 63534, -5251, 30, 63536, -5221, 29, 63538, -5192, 29, 63540, -5163, 30));
+    expect("sui 1985 behind the last zone, 15 before 12", hzk_sui(SERIES, 841, 1985, lend(&first_list), 0, fresh()), REFUSED(15));
+    expect("sui of zone and year swapped", hzk_sui(SERIES, 1985, HZK_UTC8, lend(&first_list), 39, fresh()), REFUSED(15));
+    untouched("nothing stored", &first_list);
+    for (int i = 0; i < 2; i++) {
+        check("built", hzk_build(SERIES, i ? 420 : HZK_UTC8, 1985, 3, built[i], sizeof built[i], fresh()) == 0);
+        bytes[i] = told.answer.value[0];
+    }
+    check("China's file and Vietnam's differ", memcmp(built[0], built[1], sizeof built[0]) != 0);
+    expect("build before the first zone, 15 before 8", hzk_build(SERIES, -721, 1985, 0, lend_file(), 16140, fresh()), REFUSED(15));
+    file_holds("nothing built", NULL, 0);
+    expect("rebuild Vietnam's file in UTC+7", hzk_rebuild(built[1], (size_t)bytes[1], SERIES, SERIES, 420, lend_file(), 16140, lend(&first_list), 128, fresh()), ANSWERED(bytes[1], 3));
+    file_holds("Vietnam's file", built[1], (size_t)bytes[1]);
+    holds("its years", &first_list, LIST(1985, 1986, 1987));
+    expect("rebuild Vietnam's file in UTC+8", hzk_rebuild(built[1], (size_t)bytes[1], SERIES, SERIES, HZK_UTC8, lend_file(), 16140, lend(&first_list), 128, fresh()), REFUSED(13));
+    expect("rebuild it behind the last zone, 15 before 13", hzk_rebuild(built[1], 1, SERIES, SERIES, 841, lend_file(), 16140, lend(&first_list), 128, fresh()), REFUSED(15));
     file_holds("nothing rebuilt", NULL, 0);
     untouched("nothing listed", &first_list);
 }
@@ -498,9 +544,9 @@ static void real(const char *folder, const char *almanac_file) {
     expect("value of the Moon before a mark", hzk_value_at(HZK_MOON, in.moon_start, in.moon, in.moon_words, 1040848824, fresh()), ANSWERED(5297399998176));
     expect("value of the Moon at it", hzk_value_at(HZK_MOON, in.moon_start, in.moon, in.moon_words, 1040848825, fresh()), ANSWERED(5297400002692));
     expect("value of the Moon at the end", hzk_value_at(HZK_MOON, in.moon_start, in.moon, in.moon_words, 1138060799, fresh()), ANSWERED(5791393138259));
-    expect("that mark of the Sun shown", hzk_shown(in.leap, in.leap_words, 1044362565, fresh()), ANSWERED(2033, 2, 3, 20, 41, 35, 816));
-    expect("its millisecond", hzk_milli_of(in.leap, in.leap_words, 1044362565, fresh()), ANSWERED(1044391295816));
-    expect("its day", hzk_day_of_second(in.leap, in.leap_words, 1044362565, fresh()), ANSWERED(12087));
+    expect("that mark of the Sun shown", hzk_shown(in.leap, in.leap_words, 1044362565, HZK_UTC8, fresh()), ANSWERED(2033, 2, 3, 20, 41, 35, 816));
+    expect("its millisecond", hzk_milli_of(in.leap, in.leap_words, 1044362565, HZK_UTC8, fresh()), ANSWERED(1044391295816));
+    expect("its day", hzk_day_of_second(in.leap, in.leap_words, 1044362565, HZK_UTC8, fresh()), ANSWERED(12087));
     expect("marks of the real Sun", hzk_count_marks(HZK_SUN, in.sun_start, in.sun, in.sun_words, fresh()), ANSWERED(78));
     expect("list of the real Sun", hzk_list_marks(HZK_SUN, in.sun_start, in.sun, in.sun_words, lend(&first_list), 156, fresh()), ANSWERED(78));
     listed("its marks", 78, 808, 1037989942, 885, 1139034066, 66027, 84902922432);
@@ -519,39 +565,39 @@ static void real(const char *folder, const char *almanac_file) {
     check("the words as they were", memcmp(before, given, sizeof given) == 0);
 
     /* the sui of 2033 has a month without a zhongqi and is not leap; that of 2034 has leap 11 */
-    expect("sui 2033", hzk_sui(SERIES, 2033, lend(&first_list), 36, fresh()), ANSWERED(12));
+    expect("sui 2033", hzk_sui(SERIES, HZK_UTC8, 2033, lend(&first_list), 36, fresh()), ANSWERED(12));
     holds("its months", &first_list, LIST(65078, 12025, 29, 65080, 12054, 30, 65058, 12084, 29, 65060, 12113, 30, 65062, 12143, 29, 65064, 12172, 29, 65066, 12201, 30, 65068, 12231, 29,
         65070, 12260, 30, 65072, 12290, 29, 65074, 12319, 30, 65076, 12349, 30));
-    expect("sui 2034", hzk_sui(SERIES, 2034, lend(&first_list), 50, fresh()), ANSWERED(13));
+    expect("sui 2034", hzk_sui(SERIES, HZK_UTC8, 2034, lend(&first_list), 50, fresh()), ANSWERED(13));
     holds("its months", &first_list, LIST(65110, 12379, 30, 65111, 12409, 29, 65112, 12438, 30, 65090, 12468, 29, 65092, 12497, 30, 65094, 12527, 29, 65096, 12556, 29, 65098, 12585, 30,
         65100, 12615, 29, 65102, 12644, 30, 65104, 12674, 29, 65106, 12703, 30, 65108, 12733, 30));
-    expect("sui 2034 in 38 words", hzk_sui(SERIES, 2034, lend(&first_list), 38, fresh()), REFUSED(12));
+    expect("sui 2034 in 38 words", hzk_sui(SERIES, HZK_UTC8, 2034, lend(&first_list), 38, fresh()), REFUSED(12));
     untouched("nothing stored", &first_list);
-    expect("a sui without its first solstice, 8 before 12", hzk_sui(SERIES, 2032, lend(&first_list), 0, fresh()), REFUSED(8));
-    expect("a sui out of range", hzk_sui(SERIES, 2501, lend(&first_list), 39, fresh()), REFUSED(8));
-    expect("a sui without a leap table", hzk_sui(NO_WORDS, in.sun_start, in.sun, in.sun_words, in.moon_start, in.moon, in.moon_words, 2033, lend(&first_list), 39, fresh()), REFUSED(1));
-    expect("a sui of a Sun cut short", hzk_sui(in.leap, in.leap_words, in.sun_start, in.sun, in.sun_words - 1, in.moon_start, in.moon, in.moon_words, 2033, lend(&first_list), 39, fresh()), REFUSED(2));
-    expect("a sui before the first leap entry", hzk_sui(LIST(20000, 37), in.sun_start, in.sun, in.sun_words, in.moon_start, in.moon, in.moon_words, 2033, lend(&first_list), 39, fresh()), REFUSED(7));
+    expect("a sui without its first solstice, 8 before 12", hzk_sui(SERIES, HZK_UTC8, 2032, lend(&first_list), 0, fresh()), REFUSED(8));
+    expect("a sui out of range", hzk_sui(SERIES, HZK_UTC8, 2501, lend(&first_list), 39, fresh()), REFUSED(8));
+    expect("a sui without a leap table", hzk_sui(NO_WORDS, in.sun_start, in.sun, in.sun_words, in.moon_start, in.moon, in.moon_words, HZK_UTC8, 2033, lend(&first_list), 39, fresh()), REFUSED(1));
+    expect("a sui of a Sun cut short", hzk_sui(in.leap, in.leap_words, in.sun_start, in.sun, in.sun_words - 1, in.moon_start, in.moon, in.moon_words, HZK_UTC8, 2033, lend(&first_list), 39, fresh()), REFUSED(2));
+    expect("a sui before the first leap entry", hzk_sui(LIST(20000, 37), in.sun_start, in.sun, in.sun_words, in.moon_start, in.moon, in.moon_words, HZK_UTC8, 2033, lend(&first_list), 39, fresh()), REFUSED(7));
     untouched("nothing stored", &first_list);
 
-    expect("build three suis", hzk_build(SERIES, 2033, 3, lend_file(), 584, fresh()), ANSWERED(584));
+    expect("build three suis", hzk_build(SERIES, HZK_UTC8, 2033, 3, lend_file(), 584, fresh()), ANSWERED(584));
     expect("check them", hzk_check_file(file + 1, 584, fresh()), ANSWERED(28, 3, 37));
-    expect("build them into a byte less", hzk_build(SERIES, 2033, 3, lend_file(), 583, fresh()), REFUSED(12));
+    expect("build them into a byte less", hzk_build(SERIES, HZK_UTC8, 2033, 3, lend_file(), 583, fresh()), REFUSED(12));
     file_holds("nothing built", NULL, 0);
-    expect("build no sui", hzk_build(SERIES, 2033, 0, lend_file(), 584, fresh()), REFUSED(8));
-    expect("build 129 suis", hzk_build(SERIES, 2033, 129, lend_file(), 16140, fresh()), REFUSED(8));
-    expect("build a sui that has no solstice", hzk_build(SERIES, 2033, 4, lend_file(), 16140, fresh()), REFUSED(8));
-    expect("build from the largest year", hzk_build(SERIES, INT64_MAX, 128, lend_file(), 16140, fresh()), REFUSED(8));
-    expect("build without a leap table", hzk_build(NO_WORDS, in.sun_start, in.sun, in.sun_words, in.moon_start, in.moon, in.moon_words, 2033, 3, lend_file(), 584, fresh()), REFUSED(1));
-    expect("build with a bad joint", hzk_build(in.leap, in.leap_words, in.sun_start, in.sun, in.sun_words, 0, LIST(SEGMENT(0, 20000000, 0), SEGMENT(39999883, 20000000, 0)), 2033, 3, lend_file(), 584, fresh()), REFUSED_AT(5, 1));
+    expect("build no sui", hzk_build(SERIES, HZK_UTC8, 2033, 0, lend_file(), 584, fresh()), REFUSED(8));
+    expect("build 129 suis", hzk_build(SERIES, HZK_UTC8, 2033, 129, lend_file(), 16140, fresh()), REFUSED(8));
+    expect("build a sui that has no solstice", hzk_build(SERIES, HZK_UTC8, 2033, 4, lend_file(), 16140, fresh()), REFUSED(8));
+    expect("build from the largest year", hzk_build(SERIES, HZK_UTC8, INT64_MAX, 128, lend_file(), 16140, fresh()), REFUSED(8));
+    expect("build without a leap table", hzk_build(NO_WORDS, in.sun_start, in.sun, in.sun_words, in.moon_start, in.moon, in.moon_words, HZK_UTC8, 2033, 3, lend_file(), 584, fresh()), REFUSED(1));
+    expect("build with a bad joint", hzk_build(in.leap, in.leap_words, in.sun_start, in.sun, in.sun_words, 0, LIST(SEGMENT(0, 20000000, 0), SEGMENT(39999883, 20000000, 0)), HZK_UTC8, 2033, 3, lend_file(), 584, fresh()), REFUSED_AT(5, 1));
     file_holds("nothing built", NULL, 0);
 
     take(folder, "r9");
-    expect("a sui of eleven months", hzk_sui(SERIES, 2000, lend(&first_list), 39, fresh()), REFUSED(9));
-    expect("build it", hzk_build(SERIES, 2000, 1, lend_file(), 16140, fresh()), REFUSED(9));
+    expect("a sui of eleven months", hzk_sui(SERIES, HZK_UTC8, 2000, lend(&first_list), 39, fresh()), REFUSED(9));
+    expect("build it", hzk_build(SERIES, HZK_UTC8, 2000, 1, lend_file(), 16140, fresh()), REFUSED(9));
     take(folder, "r10");
-    expect("a sui with a month of 31 days", hzk_sui(SERIES, 2000, lend(&first_list), 39, fresh()), REFUSED(10));
-    expect("build it", hzk_build(SERIES, 2000, 1, lend_file(), 16140, fresh()), REFUSED(10));
+    expect("a sui with a month of 31 days", hzk_sui(SERIES, HZK_UTC8, 2000, lend(&first_list), 39, fresh()), REFUSED(10));
+    expect("build it", hzk_build(SERIES, HZK_UTC8, 2000, 1, lend_file(), 16140, fresh()), REFUSED(10));
     untouched("nothing stored", &first_list);
     file_holds("nothing built", NULL, 0);
 
@@ -563,7 +609,7 @@ static void real(const char *folder, const char *almanac_file) {
     take("samples", "real_1995_2024.in");
     expect("2760 segments of the Moon", hzk_accept(HZK_MOON, in.moon_start, in.moon, in.moon_words, fresh()), ACCEPTED);
     expect("too many of the Sun", hzk_accept(HZK_SUN, in.moon_start, in.moon, in.moon_words, fresh()), REFUSED(2));
-    expect("build thirty suis", hzk_build(SERIES, in.first, in.count, lend_file(), 16140, fresh()), ANSWERED(3725));
+    expect("build thirty suis", hzk_build(SERIES, HZK_UTC8, in.first, in.count, lend_file(), 16140, fresh()), ANSWERED(3725));
     check("as many bytes as wanted", bytes == 3725);
     file_holds("the bytes that are wanted", wanted, bytes);
     expect("check them", hzk_check_file(wanted, bytes, fresh()), ANSWERED(28, 30, 371));
@@ -581,8 +627,9 @@ int main(int argc, char **argv) {
     series();
     months();
     almanac();
+    zones(argv[1]);
     real(argv[1], argv[2]);
-    for (int n = 0; n < 14; n++) check("every number was given, but for 11, which is withdrawn", seen[n] == (n != 11));
+    for (int n = 0; n < 16; n++) check("every number was given, but for 11, which is withdrawn, and 14, which nothing is refused by", seen[n] == (n != 11 && n != 14));
     printf("%d checks, %d failed\n", checks, failed);
     return failed != 0;
 }

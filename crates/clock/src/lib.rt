@@ -1,4 +1,4 @@
-// The clock as records, and on paper (`specs/`): leap tables, and from TDB seconds to UTC+8 milliseconds, days and shown times (document 01, "Three counts of
+// The clock as records, and on paper (`specs/`): leap tables, and from TDB seconds to the milliseconds, days and shown times of a zone (document 01, "Three counts of
 // time"), with examples and theorems. Nothing here runs: the functions are those of `conversion`.
 use dates::Date;
 use refusals::Refusal;

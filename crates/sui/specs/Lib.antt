@@ -1,4 +1,5 @@
 pub mod Sui
 pub mod Examples
 pub mod Theorems
+pub mod Zones
 pub mod theory

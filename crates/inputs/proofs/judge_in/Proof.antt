@@ -1,5 +1,5 @@
 -- `inputs::judge_in` meets its contract. Assumes nothing.
-use mathlib.Core.Path.{_≡_, sym, _∙_}
+use mathlib.Core.Path.{_≡_, sym, ap, _∙_}
 use borrow.Author.Needs.{needs}
 use borrow.Author.Tests.{not-true, not-false}
 use mir.Facts.{toZ-ofZ}
@@ -14,7 +14,7 @@ is-zone-requires c κs = search needs
 
 -- what is said of this function's own zone
 zone-told : (c : tie.After-is-zone) → c .is-zone .result ≡ isZone (c .before .args .zone)
-zone-told c = rw (toZ-ofZ (c .before .fits .zone)) at (c .is-zone .ensures)
+zone-told c = c .is-zone .ensures ∙ ap isZone (toZ-ofZ (c .before .fits .zone))
 
 returns : tie.Need-returns
 unfolding judgedIn zoneJudged

@@ -43,7 +43,7 @@ module _ (input : List ℕ) (zone : ℤ) (z : isZone zone ≡ true) where
 
 -- ---- what is known of the zone
 zone-told : (c : tie.After-is-zone) → c .is-zone .result ≡ isZone (c .before .before .before .args .zone)
-zone-told c = rw (toZ-ofZ (c .before .before .before .fits .zone)) at (c .is-zone .ensures)
+zone-told c = c .is-zone .ensures ∙ ap isZone (toZ-ofZ (c .before .before .before .fits .zone))
 
 in-zone : (c : tie.Else1) → isZone (c .before .before .before .before .args .zone) ≡ true
 in-zone c = sym (zone-told (c .before)) ∙ not-false (c .before .is-zone .result) (c .if1 .left)

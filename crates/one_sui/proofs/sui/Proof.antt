@@ -1,6 +1,7 @@
 -- `one_sui::sui` meets its contract. In the needs, `start` is the function's entry. Assumes nothing.
-use mathlib.Core.Path.{_≡_, ap, _∙_}
+use mathlib.Core.Path.{_≡_, sym, ap, ap₂, subst, _∙_}
 use borrow.Author.Needs.{needs}
+use lib.IntN.{ℤ}
 use mir.Facts.{toZ-ofZ}
 use Rattle.whole.specs.Ranges.{Within}
 use Rattle.refusals.specs.Verdict.{answered, accepted, paperCheck, refused-first, accepted-is, _then_}
@@ -8,7 +9,7 @@ use Rattle.inputs.specs.Inputs.{Inputs, inputs, judgedIn}
 use Rattle.inputs.specs.Known.{Known}
 use Rattle.inputs.specs.Theorems.{known, accepted-in}
 use Rattle.months.specs.Months.{suiOf}
-use Rattle.months.specs.Answers.{suiAnswer}
+use Rattle.months.specs.Answers.{daysAnswer, suiAnswer}
 use Rattle.months.specs.theory.Answered.{days-answered, days-refused}
 use Rattle.months.specs.theory.Days.{found-small}
 use Rattle.months.specs.theory.Kept.{year-small}
@@ -43,7 +44,7 @@ inputs-of start = let a = start .args in inputs (a .leap .now) (a .sunstart .0) 
 
 -- what the judge said, of this function's own zone
 at-judge : (c : lts.After-judge-in called reads.Pre reads.Post) → paperCheck (c .judge-in .result) ≡ judgedIn (inputs-of (c .before)) (c .before .args .zone)
-at-judge c = rw (toZ-ofZ (c .before .fits .zone)) at (c .judge-in .ensures)
+at-judge c = c .judge-in .ensures ∙ ap (judgedIn (inputs-of (c .before))) (toZ-ofZ (c .before .fits .zone))
 
 -- zone and inputs are accepted
 at-judged : (c : lts.After-enum-told called reads.Pre reads.Post) → (let start = c .before .before .before in judgedIn (inputs-of start) (start .args .zone) ≡ accepted)
@@ -55,12 +56,16 @@ at-zone c = let start = c .before .before .before in accepted-in (inputs-of star
 at-known : (c : lts.After-enum-told called reads.Pre reads.Post) → Known (inputs-of (c .before .before .before))
 at-known c = let start = c .before .before .before in known (inputs-of start) (accepted-in (inputs-of start) (start .args .zone) (at-judged c) .1)
 
+-- what the days are, of this function's own zone and year
+at-answer : (c : lts.After-days-in called reads.Pre reads.Post) → (let start = c .before .before .before .before in c .days-in .result ≡ daysAnswer (suiDays (inputs-of start) (start .args .zone) (start .args .year)))
+at-answer c = let start = c .before .before .before .before in c .days-in .ensures ∙ ap₂ (λ (zone year : ℤ). daysAnswer (suiDays (inputs-of start) zone year)) (toZ-ofZ (start .fits .zone)) (toZ-ofZ (start .fits .year))
+
 -- the days that were found
 at-days : (c : lts.After-enum-told2 called reads.Pre reads.Post) → (let start = c .before .before .before .before .before .before in suiDays (inputs-of start) (start .args .zone) (start .args .year) ≡ answered (c .before .before .days-in .result .days))
 at-days c =
     let found = c .before .before in
     let start = found .before .before .before .before in
-    days-answered (found .days-in .result) (suiDays (inputs-of start) (start .args .zone) (start .args .year)) (rw (toZ-ofZ (start .fits .zone), toZ-ofZ (start .fits .year)) at (found .days-in .ensures)) (c .enum-told2 .given .1)
+    days-answered (found .days-in .result) (suiDays (inputs-of start) (start .args .zone) (start .args .year)) (at-answer found) (c .enum-told2 .given .1)
 
 at-found : (c : lts.After-enum-told2 called reads.Pre reads.Post) → (let start = c .before .before .before .before .before .before in Found (inputs-of start) (start .args .zone) (start .args .year) (c .before .before .days-in .result .days))
 at-found c = let start = c .before .before .before .before .before .before in days-found (inputs-of start) (start .args .zone) (start .args .year) (at-days c)
@@ -87,7 +92,7 @@ enum-told : tie.Need-enum-told
 enum-told c = search needs
 
 days-in-requires : tie.Need-days-in-requires
-days-in-requires c κs = rw (toZ-ofZ (c .before .before .before .fits .zone)) (at-known c, at-zone c)
+days-in-requires c κs = (at-known c, subst (Within 1000) (sym (toZ-ofZ (c .before .before .before .fits .zone))) (at-zone c))
 
 enum-known-judged : tie.Need-enum-known-judged
 enum-known-judged c = search needs
@@ -100,7 +105,7 @@ returns-2 c =
     let told = c .before .before in
     let found = told .before .before in
     let start = found .before .before .before .before in
-    let refused = days-refused (found .days-in .result) (suiDays (inputs-of start) (start .args .zone) (start .args .year)) (rw (toZ-ofZ (start .fits .zone), toZ-ofZ (start .fits .year)) at (found .days-in .ensures)) (told .judged .given .1) in
+    let refused = days-refused (found .days-in .result) (suiDays (inputs-of start) (start .args .zone) (start .args .year)) (at-answer found) (told .judged .given .1) in
     c .no-sui2 .ensures ∙ ap suiAnswer (sui-refused (inputs-of start) (start .args .zone) (start .args .year) (at-judged (found .before)) refused)
 
 enum-told-2 : tie.Need-enum-told-2

@@ -51,7 +51,7 @@ at-years c e = sym (ap paperYears e) ∙ c .years-in .ensures
 
 -- the zone
 zone-told : (c : lts.After-is-zone called reads.Pre reads.Post) → c .is-zone .result ≡ isZone (c .before .before .before .args .zone)
-zone-told c = rw (toZ-ofZ (c .before .before .before .fits .zone)) at (c .is-zone .ensures)
+zone-told c = c .is-zone .ensures ∙ ap isZone (toZ-ofZ (c .before .before .before .fits .zone))
 
 is-zone : (c : lts.Else1 called reads.Pre reads.Post) → isZone (c .before .before .before .before .args .zone) ≡ true
 is-zone c = sym (zone-told (c .before)) ∙ not-false (c .before .is-zone .result) (c .if1 .left)

@@ -15,7 +15,7 @@ use Rattle.rebuilding.proofs.rebuild_taken.Tie as tie
 
 -- the zone
 zone-told : (c : tie.After-is-zone) → c .is-zone .result ≡ isZone (c .before .before .before .args .zone)
-zone-told c = rw (toZ-ofZ (c .before .before .before .fits .zone)) at (c .is-zone .ensures)
+zone-told c = c .is-zone .ensures ∙ ap isZone (toZ-ofZ (c .before .before .before .fits .zone))
 
 in-zone : (c : tie.Else1) → isZone (c .before .before .before .before .args .zone) ≡ true
 in-zone c = sym (zone-told (c .before)) ∙ not-false (c .before .is-zone .result) (c .if1 .left)

@@ -1,5 +1,5 @@
 -- `build::inner::ahead::find_ahead` meets its contract. In the needs, `start` is the function's entry. Assumes nothing.
-use mathlib.Core.Path.{sym, ap, _∙_}
+use mathlib.Core.Path.{sym, ap, subst, _∙_}
 use Prim.Native.Nat.{ℕ, _+_, _*_, _≤_, _<_}
 use native.Mathlib.Omega.{arith}
 use native.Mathlib.Decide.{decLt}
@@ -12,7 +12,7 @@ use Rattle.whole.specs.Tabulated.{tabulate, length-tabulate}
 use Rattle.inputs.specs.Inputs.{Inputs, inputs, sun, moon}
 use Rattle.turns.specs.theory.Counting.{by-small}
 use Rattle.turns.specs.Listed.{turnDay, turnsOf}
-use Rattle.turns.specs.Searched.{count-is}
+use Rattle.turns.specs.Searched.{Searched, count-is}
 use Rattle.suis.specs.Ahead.{Ahead, zhongqiOf, solsticesBefore, fewer}
 use Rattle.suis.specs.theory.Lookups.{Fewer, fewer-says, ahead-made, ahead-any}
 use Rattle.suis.specs.theory.Zhongqi.{length-zhongqi, zhongqi-made}
@@ -118,7 +118,8 @@ days-ahead-requires-2 : tie.Need-days-ahead-requires-2
 days-ahead-requires-2 c κs =
     let start = c .before .before .before .before .before .before in
     let few = moons-ahead (c .before) in
-    rw (toZ-ofZ (start .fits .zone)) (start .pre .0 .moons-searched, (omega (arith, few .listed-all, count-is (start .pre .0 .moons-searched)), omega (arith, few .not-more, start .pre .1 .1 .0)))
+    let searched = subst (λ (zone : ℤ). Searched (start .args .leap .now) (moon (inputs-of start)) zone (start .args .moons)) (sym (toZ-ofZ (start .fits .zone))) (start .pre .0 .moons-searched) in
+    (searched, (omega (arith, few .listed-all, count-is (start .pre .0 .moons-searched)), omega (arith, few .not-more, start .pre .1 .1 .0)))
 
 fewer-requires-3 : tie.Need-fewer-requires-3
 fewer-requires-3 c κs = found-some (c .before .before .before .before .before .before .before)
