@@ -2,7 +2,6 @@
 -- builds give the same bytes, or the same refusal (`same-days-same-file`). Assumes nothing but what a statement says itself.
 use mathlib.Core.Path.{_≡_, ap₂}
 use mathlib.Core.Bool.{true}
-use mathlib.Core.List.{List}
 use Prim.Native.Nat.{ℕ}
 use lib.IntN.{ℤ}
 use Rattle.refusals.specs.Verdict.{Verdict}
@@ -11,7 +10,7 @@ use Rattle.clock.specs.Answers.{zoneJudged}
 use Rattle.marks.specs.Listed.{listedMarks}
 use Rattle.inputs.specs.Inputs.{Inputs, sun, moon, judgedIn}
 use Rattle.months.specs.declared.Sui.{Sui}
-use Rattle.sui.specs.Sui.{isZhongqi, isNewMoon, suiOfYear}
+use Rattle.sui.specs.Sui.{isZhongqi, isNewMoon}
 use Rattle.sui.specs.Zones.{OneDay, same-days-same-sui}
 use Rattle.built.specs.Build.{bytesBuilt, builtBy}
 

@@ -1,9 +1,9 @@
 -- A sui hangs on the zone by the days of its marks alone: where each listed new moon and each listed zhongqi has one day in two zones, every sui is the same in both
 -- (`same-days-same-sui`). So two zones differ only where a new moon or a zhongqi falls between their midnights. Assumes nothing but what a statement says itself.
-use mathlib.Core.Path.{_≡_, refl, sym, ap, ap₂, _∙_}
+use mathlib.Core.Path.{_≡_, refl, ap, ap₂}
 use mathlib.Core.Bool.{Bool, true, false, cond, not, _&&_}
 use mathlib.Core.List.{List, [], _∷_, map}
-use Prim.Native.Nat.{ℕ, _+_, _*_, _<_}
+use Prim.Native.Nat.{_+_, _*_}
 use native.Mathlib.Omega.{arith}
 use borrow.Author.Tests.{eqb-true, eq-eqb}
 use lib.IntN.{ℤ, pos, _+ℤ_, _-ℤ_, _*ℤ_}
