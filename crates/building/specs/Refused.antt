@@ -1,6 +1,6 @@
 -- Which series a build refuses by 2 to 5 (document 01, "Refusal numbers"): the number and the segment do not say whether they are the Sun's or the Moon's. The Sun
--- where the zone is one, the input keeps its layout, the leap table is lawful and the Sun's series is refused; the Moon where the Sun's is accepted and the Moon's is refused; else
--- neither. Assumes nothing: these are definitions.
+-- where the zone is one, the input keeps its layout, the leap table is lawful and the Sun's series is refused; the Moon where the Sun's is accepted and the Moon's is
+-- refused; else neither. Assumes nothing: these are definitions.
 use mathlib.Core.Bool.{not}
 use mathlib.Core.List.{List}
 use Prim.Native.Nat.{ℕ, _/_}

@@ -1,6 +1,6 @@
 -- An input is taken as `build` takes it: what `build` makes of an input is what is built from its leap table, Sun and Moon, for the years that stand before them, and
--- behind the zone it is refused by 13 for its layout exactly where they are (`build-takes-them`). So the new file is what `build` makes of a new input that asks for the old file's years
--- (`rebuilt-is-built`). Assumes nothing but what a statement says itself.
+-- behind the zone it is refused by 13 for its layout exactly where they are (`build-takes-them`). So the new file is what `build` makes of a new input that asks for the
+-- old file's years (`rebuilt-is-built`). Assumes nothing but what a statement says itself.
 use mathlib.Core.Path.{_≡_, refl, ap, ap₂, _∙_}
 use mathlib.Core.Bool.{Bool, true, false}
 use mathlib.Core.List.{List}

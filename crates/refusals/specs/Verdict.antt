@@ -91,7 +91,7 @@ pub answered-says : {A : Type 0} {a b : A} (u : Verdict (Unit {0})) → u before
 answered-says (answered tt) e = (refl, answers-apart e)
 answered-says (refused number segment) e = answer-or-refusal (sym e)
 
--- what answers behind a judge tells that he accepts
+-- what answers behind a judge tells that the judge accepts
 pub before-answered : {A : Type 0} (u : Verdict (Unit {0})) (v : Verdict A) {a : A} → u before v ≡ answered a → (u ≡ accepted) × (v ≡ answered a)
 before-answered (answered tt) v e = (refl, e)
 before-answered (refused number segment) v e = answer-or-refusal (sym e)

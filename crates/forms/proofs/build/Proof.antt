@@ -1,5 +1,5 @@
--- `forms::build` meets its contract: a walk of its MIR, by hand, as that of `forms::sui_into`, with two numbers and a lent slice of bytes. Both structs are taken apart, and `build::build` is called on the leap table, each start
--- with its coefficients, the first year, the count and the slice. All that the proof knows of it is that it meets its contract. The structs and the leap table are Copy: one copy of what each owns is kept for the exit. The
+-- `forms::build` meets its contract: a walk of its MIR, by hand, as that of `forms::sui_into`, with three numbers and a lent slice of bytes. Both structs are taken apart, and `build::build` is called on the leap table, each start
+-- with its coefficients, the zone, the first year, the count and the slice. All that the proof knows of it is that it meets its contract. The structs and the leap table are Copy: one copy of what each owns is kept for the exit. The
 -- `&mut` isn't needed after the call, so it goes to the callee at its own lifetime, share and name (`gave-slice`). Assumes nothing.
 use mathlib.Core.Path.{_≡_, refl}
 use Prim.Native.Nat.{ℕ, _<_, _^_}

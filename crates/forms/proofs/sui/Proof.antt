@@ -1,4 +1,4 @@
--- `forms::sui` meets its contract: a walk of its MIR, by hand. Both structs are taken apart, and `one_sui::sui` is called on the leap table, each start with its coefficients, and the year. All that the
+-- `forms::sui` meets its contract: a walk of its MIR, by hand. Both structs are taken apart, and `one_sui::sui` is called on the leap table, each start with its coefficients, the zone and the year. All that the
 -- proof knows of it is that it meets its contract. The structs and the leap table are Copy: one copy of what each owns is kept for the exit. Assumes nothing.
 use mathlib.Core.Path.{_≡_, refl}
 use Prim.Native.Nat.{_<_, _^_}

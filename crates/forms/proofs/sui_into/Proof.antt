@@ -1,5 +1,5 @@
 -- `forms::sui_into` meets its contract: a walk of its MIR, by hand, as that of `forms::sui`, with a lent list beside. Both structs are taken apart, and `records::sui_into` is called on the leap table, each start with its
--- coefficients, the year and the list. All that the proof knows of it is that it meets its contract. The structs and the leap table are Copy: one copy of what each owns is kept for the exit. The `&mut` isn't needed
+-- coefficients, the zone, the year and the list. All that the proof knows of it is that it meets its contract. The structs and the leap table are Copy: one copy of what each owns is kept for the exit. The `&mut` isn't needed
 -- after the call, so it goes to the callee at its own lifetime, share and name (`gave-slice`). Assumes nothing.
 use mathlib.Core.Path.{_≡_, refl}
 use Prim.Native.Nat.{ℕ, _<_, _^_}
