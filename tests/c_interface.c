@@ -156,25 +156,21 @@ static void clocks(void) {
 /* ---- inserted seconds: 2016-12-31 23:59:60 UTC, and both sides of it */
 #define REAL_LEAP -365, 32, 2192, 33, 3288, 34, 4565, 35, 5660, 36, 6210, 37
 
-/* A clock that ticks: whether every second of four days and a minute is shown as the tick after the one before. An entry begins on the UTC days 0, 1, 2, 4, 5, 6, 8, .., at 08:00 in
-   UTC+8, and each but the first inserts a second before it. */
-static bool ticks(void) {
+/* A clock that ticks: whether every second of four days and a minute is shown in a zone as the tick after the one before. An entry begins on the UTC days 0, 1, 2, 4, 5, 6,
+   8, .., and each but the first inserts a second before it, at the end of a minute of UTC and so of every zone. */
+static bool ticks(int64_t zone) {
     static int64_t table[128];
     for (int64_t i = 0; i < 64; i++) table[2 * i] = i + i / 3, table[2 * i + 1] = 32 + i;
-    int64_t day = 0, hour = 8, minute = 0, second = 0;
+    int64_t minutes = 0, second = 0;
     for (int64_t tdb = 65; tdb < 65 + 4 * 86400 + 60; tdb++) {
         hzk_answer date, shown, of;
+        int64_t day = (minutes + zone + 1440) / 1440 - 1, minute = (minutes + zone + 1440) % 1440;
         hzk_date_of(day, &date);
-        if (hzk_shown(table, 128, tdb, HZK_UTC8, &shown) != 0 || hzk_day_of_second(table, 128, tdb, HZK_UTC8, &of) != 0) return false;
-        const int64_t wanted[] = {date.value[0], date.value[1], date.value[2], hour, minute, second, 816};
+        if (hzk_shown(table, 128, tdb, zone, &shown) != 0 || hzk_day_of_second(table, 128, tdb, zone, &of) != 0) return false;
+        const int64_t wanted[] = {date.value[0], date.value[1], date.value[2], minute / 60, minute % 60, second, 816};
         if (memcmp(shown.value, wanted, sizeof wanted) != 0 || of.value[0] != day) return false;
-        int64_t last = hour == 7 && minute == 59 && day % 4 != 3 ? 60 : 59;
-        if (second++ < last) continue;
-        second = 0;
-        if (++minute < 60) continue;
-        minute = 0;
-        if (++hour < 24) continue;
-        hour = 0, day++;
+        int64_t last = minutes % 1440 == 1439 && minutes / 1440 % 4 != 2 ? 60 : 59;
+        if (second++ == last) second = 0, minutes++;
     }
     return true;
 }
@@ -189,7 +185,8 @@ static void inserted(void) {
     expect("day inside an inserted second", hzk_day_of_second(LIST(REAL_LEAP), 536544069, HZK_UTC8, fresh()), ANSWERED(6210));
     expect("shown in the second before the first entry", hzk_shown(LIST(6210, 37), 536544069, HZK_UTC8, fresh()), REFUSED(7));
     expect("shown in the first second of the first entry", hzk_shown(LIST(6210, 37), 536544070, HZK_UTC8, fresh()), ANSWERED(2017, 1, 1, 8, 0, 0, 816));
-    check("every second of four days and a minute, as a clock ticks", ticks());
+    const int64_t zones[] = {-720, -210, -1, 0, 1, 345, 420, HZK_UTC8, 840};
+    for (size_t i = 0; i < COUNT(zones); i++) check("every second of four days and a minute, as a clock ticks", ticks(zones[i]));
 }
 
 /* ---- series and marks: document 01's Sun and Moon */
