@@ -1,5 +1,6 @@
 -- `build::inner::ahead::find_ahead` meets its contract. In the needs, `start` is the function's entry. Assumes nothing.
-use mathlib.Core.Path.{sym, ap, subst, _∙_}
+use mathlib.Core.Path.{_≡_, sym, ap, subst, _∙_}
+use mathlib.Core.List.{_++_}
 use Prim.Native.Nat.{ℕ, _+_, _*_, _≤_, _<_}
 use native.Mathlib.Omega.{arith}
 use native.Mathlib.Decide.{decLt}
@@ -87,6 +88,18 @@ found-some c =
     go few (yes short) = omega (arith, few .or-all short, c .before .pre .0 .begins .is-place, c .before .pre .0 .begins .is-listed)
     go few (no long) = omega arith
 
+-- the days of the new moons, of this function's own zone
+moons-told : (c : Moons) →
+    (let start = c .before .before .before .before .before .before .before in
+    let a = start .args in
+    let few = c .before .before .fewer2 .result in
+    c .days-ahead2 .last .1 .1 .1 .1 .1 .1 .1 .1 .0 ≡ tabulate (λ k. turnDay (a .leap .now) (moon (inputs-of start)) (a .zone) (a .places .newmoon + k)) few ++ drop few (a .newmoons .now))
+moons-told c =
+    let start = c .before .before .before .before .before .before .before in
+    let a = start .args in
+    let few = c .before .before .fewer2 .result in
+    c .days-ahead2 .ensures ∙ ap (λ (zone : ℤ). tabulate (λ k. turnDay (a .leap .now) (moon (inputs-of start)) zone (a .places .newmoon + k)) few ++ drop few (a .newmoons .now)) (toZ-ofZ (start .fits .zone))
+
 -- as many suis as they enclose
 enclosed : (c : lts.After-fewer3 called reads.Pre reads.Post) → Fewer (c .before .before .before .before .before .before .before .before .fewer .result) 1 (c .before .before .before .before .before .before .before .before .before .args .n) (c .fewer3 .result)
 enclosed c = rw (c .fewer3 .ensures) (fewer-says (c .before .before .before .before .before .before .before .before .fewer .result) 1 (c .before .before .before .before .before .before .before .before .before .args .n) (found-some (c .before .before .before .before .before .before .before .before)))
@@ -160,7 +173,7 @@ returns c =
       record {
         begun = start .pre .0;
         solstices-ahead = solstices-ahead suns;
-        moons-ahead = ahead-made _ (moons-ahead (moons .before .before)) (rw (toZ-ofZ (start .fits .zone)) at (moons .days-ahead2 .ensures));
+        moons-ahead = ahead-made _ (moons-ahead (moons .before .before)) (moons-told moons);
         zhongqi-room = omega (arith, ap length filled ∙ placed-length (a .zhongqi .now) all 0 (omega (arith, length-zhongqi (a .leap .now) (sun (inputs-of start)) (a .zone) (a .places .solstice) suis, between .not-more, start .pre .1 .1 .1)), start .pre .1 .1 .1);
         zhongqi-ahead = zhongqi-made (a .leap .now) (sun (inputs-of start)) (a .zone) (a .places .solstice) _ (suns-ahead (suns .before .before)) between filled;
       },
