@@ -92,6 +92,56 @@ static int race_values(const series *given) {
     return 0;
 }
 
+/* ---- who serves: a near series, the second of a long one's three segments, and that long one; each call accepts both anew */
+typedef struct { int64_t number, side, segment; } served;
+
+#define SERVED(NAME)                                                                                                                    \
+    __attribute__((noinline)) static served NAME##_serves(const series *two, int64_t second) {                                          \
+        for (int i = 0; i < 2; i++) {                                                                                                   \
+            judged verdict = NAME##_accept(two + i);                                                                                    \
+            if (verdict.number) return (served){verdict.number, 0, 0};                                                                  \
+        }                                                                                                                               \
+        for (int i = 0; i < 2; i++)                                                                                                     \
+            if (two[i].start <= second && second <= last_second(two + i))                                                               \
+                return (served){0, i, (second - two[i].start) / (int64_t)(2 * half_length(two[i].moon))};                               \
+        return (served){18, 0, 0};                                                                                                      \
+    }
+
+SERVED(same)
+SERVED(plain)
+
+static served proved_serves(const series *two, int64_t second) {
+    int64_t number = hzk_serves(two->moon, two->start, two->coefs, two->count, two[1].start, two[1].coefs, two[1].count, second, &answer);
+    return (served){number, answer.value[0], answer.value[1]};
+}
+
+static int race_serves(const series *given) {
+    int64_t length = (int64_t)(2 * half_length(given->moon));
+    series two[2] = {{given->moon, given->start + length, given->coefs + 14, 14}, {given->moon, given->start, given->coefs, 42}};
+    served (*const by[3])(const series *, int64_t) = {proved_serves, same_serves, plain_serves};
+    double best[3] = {1e9, 1e9, 1e9};
+    for (size_t i = 0; i < VALUES; i++) seconds[i] = given->start + (int64_t)any((size_t)(3 * length));
+    for (size_t i = 0; i < VALUES; i++) {
+        int64_t second = i % 10 ? seconds[i] : given->start + (int64_t)any(4) * length - (int64_t)any(2);
+        served a = by[0](two, second);
+        for (int k = 1; k < 3; k++) {
+            served b = by[k](two, second);
+            if (a.number == b.number && a.side == b.side && a.segment == b.segment) continue;
+            printf("%s: who serves second %ld differs\n", name_of(given), second);
+            return 1;
+        }
+    }
+    for (int r = 0; r < ROUNDS; r++)
+        for (int k = 0; k < 3; k++) {
+            double t = now(CLOCK_MONOTONIC);
+            for (size_t i = 0; i < VALUES; i++) kept = by[k](two, seconds[i]).segment;
+            t = now(CLOCK_MONOTONIC) - t;
+            if (t < best[k]) best[k] = t;
+        }
+    row("who serves, one segment and three accepted: ", name_of(given), best[0] / VALUES, best[1] / VALUES, 0, best[2] / VALUES);
+    return 0;
+}
+
 /* ---- acceptance and lists */
 static int64_t proved_list(const series *s, int64_t *out, size_t room) {
     int64_t number = hzk_list_marks(s->moon, s->start, s->coefs, s->count, out, room, &answer);
@@ -565,6 +615,8 @@ int main(int arguments, char **argument) {
     count_suis(&in, first, count);
     for (int b = 0; b < 2; b++)
         if (race_values(&in.body[b])) return 1;
+    for (int b = 0; b < 2; b++)
+        if (race_serves(&in.body[b])) return 1;
     for (int b = 0; b < 2; b++)
         if (race_series(&in.body[b])) return 1;
     if (race_suis(&in, first, count) || race_builds(&in, first, count) || race_rebuilds(&in, first, count)) return 1;

@@ -80,6 +80,8 @@ static int64_t replace_in_sun(void) { return hzk_replace_segment(HZK_SUN, in.sun
 static int64_t replace_in_moon(void) { return hzk_replace_segment(HZK_MOON, in.moon_start, in.moon, 14 * MOON, MOON - 1, last_moon, &answer); }
 static int64_t value_of_sun(void) { return hzk_value_at(HZK_SUN, in.sun_start, in.sun, 14, in.sun_start + 1000001, &answer); }
 static int64_t value_of_moon(void) { return hzk_value_at(HZK_MOON, in.moon_start, in.moon, 14, in.moon_start + 100001, &answer); }
+static int64_t serves_by_sun(void) { return hzk_serves(SUN_SERIES, in.sun_start, in.sun, 14 * SUN, in.sun_start + 1000001, &answer); }
+static int64_t serves_by_moon(void) { return hzk_serves(MOON_SERIES, in.moon_start, in.moon, 14 * MOON, in.moon_start + 100001, &answer); }
 static int64_t count_of_sun(void) { return hzk_count_marks(SUN_SERIES, &answer); }
 static int64_t count_of_moon(void) { return hzk_count_marks(MOON_SERIES, &answer); }
 static int64_t list_of_sun(void) { return hzk_list_marks(SUN_SERIES, marks, 2 * MARKS, &answer); }
@@ -176,6 +178,8 @@ int main(int count, char **words) {
     MEASURE(replace_in_moon);
     MEASURE(value_of_sun);
     MEASURE(value_of_moon);
+    MEASURE(serves_by_sun);
+    MEASURE(serves_by_moon);
     MEASURE(count_of_sun);
     MEASURE(count_of_moon);
     MEASURE(list_of_sun);

@@ -10,6 +10,7 @@
      6 a second, a day, a date or a segment out of range  12 lent room too small
      7 an instant before the first leap entry             13 a file, or lists to be written, break their layout, or old inputs give another file
                                                           15 zone out of range
+                                                          18 neither of two series covers the second
 
    The answer record is written whole by every call: the number again, the segment that a refusal by 3 to 5 names (counted from 0; else 0), and the numbers
    of the answer, in the order that the function's comment gives; what it does not name is 0, and after a refusal all are. A lent list or file (the pointers
@@ -45,6 +46,10 @@ typedef struct hzk_answer {
 #define HZK_SUN false
 #define HZK_MOON true
 
+/* Which of two series serves. */
+#define HZK_NEAR 0
+#define HZK_LONG 1
+
 /* ---- days and dates */
 
 /* The date of a day: year, month, day. 6 for a day outside -150,000 to 200,000. */
@@ -77,6 +82,11 @@ int64_t hzk_accept(bool moon, int64_t start, const int64_t *coefs, size_t coef_w
 
 /* The value of a series at a second: units of 0.1 milliarcsecond. 2 to 5, 6 outside the span. */
 int64_t hzk_value_at(bool moon, int64_t start, const int64_t *coefs, size_t coef_words, int64_t second, hzk_answer *answer);
+
+/* Which of two series of one kind serves a second, the near one if that covers it and otherwise the long one: HZK_NEAR or HZK_LONG, and the segment that has the
+   second, counted from 0. Its coefficients are the 14 words of that series from word 14 x segment on. 2 to 5 for the near one, then for the long one; 18. */
+int64_t hzk_serves(bool moon, int64_t near_start, const int64_t *near_coefs, size_t near_words, int64_t long_start, const int64_t *long_coefs, size_t long_words,
+                   int64_t second, hzk_answer *answer);
 
 /* Replaces segment `number` (counted from 0) of a series by the 14 words of part, and judges the whole new series. 6 where there is no such segment; then 2; 3, 4,
    5 with the segment. Writes 14 words; while the call runs they stand in coefs, and after a refusal those that stood there do again. */

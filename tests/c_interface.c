@@ -26,7 +26,7 @@ static void check(const char *what, bool holds) {
 #define UNTOUCHED 0x5A5A5A5A5A5A5A5A
 
 static struct { int64_t before; hzk_answer answer; int64_t behind; } told;
-static bool seen[16];
+static bool seen[19];
 
 static hzk_answer *fresh(void) {
     told.before = told.behind = told.answer.number = told.answer.segment = UNTOUCHED;
@@ -253,6 +253,26 @@ static void series(void) {
     expect("value behind it", hzk_value_at(HZK_SUN, 0, LIST(SUN), 2764800, fresh()), REFUSED(6));
     expect("value before the start", hzk_value_at(HZK_SUN, 0, LIST(SUN), -1, fresh()), REFUSED(6));
     expect("value of a bad series, 4 before 6", hzk_value_at(HZK_SUN, 0, LIST(SEGMENT(0, 138239999, 0)), -1, fresh()), REFUSED(4));
+
+    /* near from 1,000,000 to 3,764,799, long from 0 to 5,529,599 */
+#define BOTH(second) HZK_SUN, 1000000, LIST(SUN), 0, LIST(SUN, SECOND), second, fresh()
+    expect("near at its first second", hzk_serves(BOTH(1000000)), ANSWERED(HZK_NEAR, 0));
+    expect("long before it", hzk_serves(BOTH(999999)), ANSWERED(HZK_LONG, 0));
+    expect("near at its last second", hzk_serves(BOTH(3764799)), ANSWERED(HZK_NEAR, 0));
+    expect("long behind it", hzk_serves(BOTH(3764800)), ANSWERED(HZK_LONG, 1));
+    expect("long at its first second", hzk_serves(BOTH(0)), ANSWERED(HZK_LONG, 0));
+    expect("long at its last second", hzk_serves(BOTH(5529599)), ANSWERED(HZK_LONG, 1));
+    expect("neither before both", hzk_serves(BOTH(-1)), REFUSED(18));
+    expect("neither behind both", hzk_serves(BOTH(5529600)), REFUSED(18));
+    expect("neither at the least second", hzk_serves(BOTH(INT64_MIN)), REFUSED(18));
+    expect("neither at the largest", hzk_serves(BOTH(INT64_MAX)), REFUSED(18));
+    expect("near by its second segment", hzk_serves(HZK_SUN, 0, LIST(SUN, SECOND), 0, LIST(SUN), 2764800, fresh()), ANSWERED(HZK_NEAR, 1));
+    expect("near where long has ended", hzk_serves(HZK_MOON, 0, LIST(MOON), -345600, LIST(MOON), 0, fresh()), ANSWERED(HZK_NEAR, 0));
+    expect("a bad long series where near covers", hzk_serves(HZK_SUN, 0, LIST(SUN), 0, LIST(SUN, SUN), 0, fresh()), REFUSED_AT(5, 1));
+    expect("a bad long series where neither does, 5 before 18", hzk_serves(HZK_SUN, 0, LIST(SUN), 0, LIST(SUN, SUN), -1, fresh()), REFUSED_AT(5, 1));
+    expect("a bad near series first", hzk_serves(HZK_SUN, 0, LIST(SUN, SUN), 10000000001, LIST(SUN), 0, fresh()), REFUSED_AT(5, 1));
+    expect("a near series that starts too late", hzk_serves(HZK_SUN, 10000000001, LIST(SUN), 0, LIST(SUN, SUN), 0, fresh()), REFUSED(2));
+    expect("a long series of no segment", hzk_serves(HZK_SUN, 0, LIST(SUN), 0, NO_WORDS, 0, fresh()), REFUSED(2));
 
     expect("marks of the Sun", hzk_count_marks(HZK_SUN, 0, LIST(SUN), fresh()), ANSWERED(2));
     expect("marks of the Moon", hzk_count_marks(HZK_MOON, 0, LIST(MOON), fresh()), ANSWERED(1));
@@ -541,6 +561,12 @@ static void real(const char *folder, const char *almanac_file) {
     expect("value of the Moon before a mark", hzk_value_at(HZK_MOON, in.moon_start, in.moon, in.moon_words, 1040848824, fresh()), ANSWERED(5297399998176));
     expect("value of the Moon at it", hzk_value_at(HZK_MOON, in.moon_start, in.moon, in.moon_words, 1040848825, fresh()), ANSWERED(5297400002692));
     expect("value of the Moon at the end", hzk_value_at(HZK_MOON, in.moon_start, in.moon, in.moon_words, 1138060799, fresh()), ANSWERED(5791393138259));
+    /* the same Moon, and a part of it as the near series: its segments 100 to 109 */
+#define FROM_100 in.moon_start + 100 * 345600, in.moon + 14 * 100, 14 * 10, in.moon_start, in.moon, in.moon_words
+    expect("the near Moon", hzk_serves(HZK_MOON, FROM_100, in.moon_start + 105 * 345600, fresh()), ANSWERED(HZK_NEAR, 5));
+    expect("the long one before it", hzk_serves(HZK_MOON, FROM_100, in.moon_start + 100 * 345600 - 1, fresh()), ANSWERED(HZK_LONG, 99));
+    expect("the long one behind it", hzk_serves(HZK_MOON, FROM_100, in.moon_start + 110 * 345600, fresh()), ANSWERED(HZK_LONG, 110));
+    expect("neither", hzk_serves(HZK_MOON, FROM_100, in.moon_start + (int64_t)in.moon_words / 14 * 345600, fresh()), REFUSED(18));
     expect("that mark of the Sun shown", hzk_shown(in.leap, in.leap_words, 1044362565, HZK_UTC8, fresh()), ANSWERED(2033, 2, 3, 20, 41, 35, 816));
     expect("its millisecond", hzk_milli_of(in.leap, in.leap_words, 1044362565, HZK_UTC8, fresh()), ANSWERED(1044391295816));
     expect("its day", hzk_day_of_second(in.leap, in.leap_words, 1044362565, HZK_UTC8, fresh()), ANSWERED(12087));
@@ -626,7 +652,8 @@ int main(int argc, char **argv) {
     almanac();
     zones(argv[1]);
     real(argv[1], argv[2]);
-    for (int n = 0; n < 16; n++) check("every number was given, but for 11, which is withdrawn, and 14, which nothing is refused by", seen[n] == (n != 11 && n != 14));
+    for (int n = 0; n < 19; n++)
+        check("every number was given, but for 11, which is withdrawn, and 14, 16 and 17, which nothing is refused by", seen[n] == (n != 11 && n != 14 && n != 16 && n != 17));
     printf("%d checks, %d failed\n", checks, failed);
     return failed != 0;
 }

@@ -2,12 +2,16 @@
 // by itself.
 use series::Body;
 use times::Second;
+use whole::inner::in_range;
 ghost use mathlib.Core.Path.{_≡_};
-ghost use Prim.Native.Nat.{_/_, _<_};
+ghost use Prim.Native.Nat.{_*_, _^_, _/_, _<_};
 ghost use lib.IntN.{pos, _-ℤ_, _*ℤ_};
+ghost use lib.Signed.{_≤ℤ_};
+ghost use Rattle.whole.specs.Distance.{distanceFrom};
+ghost use Rattle.whole.specs.PartOf.{PartOf};
 ghost use Rattle.whole.specs.Ranges.{Within};
 ghost use Rattle.series.specs.Bodies.{numbers};
-ghost use Rattle.series.specs.Series.{series, segment, segments, segmentLength, InSpan, lastSecond, valueAt};
+ghost use Rattle.series.specs.Series.{series, segments, segmentLength, InSpan, covers, lastSecond, valueAt};
 ghost use Rattle.series.specs.Acceptance.{Accepted};
 ghost use Rattle.series.specs.theory.Place.{placeAfter};
 
@@ -63,10 +67,10 @@ fn place_after(body: Body, seconds: usize) -> i64
     }
 }
 
-// The coefficients of segment k: that part of the lent ones.
+// The coefficients of segment k: that part of the lent ones, and no copy.
 pub fn segment_of(coefs: &[i64], k: usize) -> &[i64]
     requires { ⌜ k < segments (now coefs) ⌝ }
-    ensures { λ r. ⌜ now r ≡ segment (now (coefs .entry)) k ⌝ }
+    ensures { λ r. ⌜ PartOf (coefs .entry) (14 * k) 14 r ⌝ }
 {
     let first = 14 * k;
     let end = first + 14;
@@ -82,6 +86,24 @@ pub fn last_second(body: Body, start: Second, coefs: &[i64]) -> Second
     let seconds = 2 * half_length(body) * (coefs.len() / 14);
     let end = whole::inner::add(from, whole::inner::signed(seconds));
     Second(whole::inner::subtract(end, 1))
+}
+
+// Whether the span has a second.
+pub fn covers(body: Body, start: Second, coefs: &[i64], second: Second) -> bool
+    requires { ⌜ Accepted (series body (start .0) (now coefs)) ⌝ }
+    ensures { λ r. ⌜ r ≡ covers (series body (start .0) (now (coefs .entry))) (second .0) ⌝ }
+{
+    let last = last_second(body, start, coefs);
+    in_range(start.0, last.0, second.0)
+}
+
+// The segment that has a second, which does not lie before the start.
+pub fn segment_at(body: Body, start: Second, second: Second) -> usize
+    requires { ⌜ (start .0) ≤ℤ (second .0) ⌝ }
+    requires { ⌜ distanceFrom (start .0) (second .0) < 2 ^ 63 ⌝ }
+    ensures { λ r. ⌜ r ≡ distanceFrom (start .0) (second .0) / segmentLength body ⌝ }
+{
+    segment_after(body, whole::inner::distance(start.0, second.0))
 }
 
 // The value at a second of the span.

@@ -29,14 +29,7 @@ pub fn value_at(body: Body, start: Second, coefs: &[i64], second: Second) -> Val
     if let Check::Refused(r) = judged {
         return ValueAnswer::Refused(r);
     }
-    let from = start.0;
-    let at = second.0;
-    if at < from {
-        return ValueAnswer::Refused(refusals::OUTSIDE);
-    }
-    let last = inner::last_second(body, start, coefs);
-    let end = last.0;
-    if end < at {
+    if !inner::covers(body, start, coefs, second) {
         return ValueAnswer::Refused(refusals::OUTSIDE);
     }
     ValueAnswer::Value(inner::value(body, start, coefs, second))

@@ -13,9 +13,10 @@ use Rattle.refusals.specs.Lent.{writtenInto}
 use Rattle.dates.specs.declared.Date.{Date}
 use Rattle.series.specs.declared.Body.{Body}
 use Rattle.series.specs.declared.Body.the-variants.{Sun, Moon}
+use Rattle.served.specs.Served.{near, long}
 use Rattle.months.specs.declared.Sui.{Sui}
 use Rattle.built.specs.Build.{wordsOf}
-use Rattle.answers.specs.Record.{numberOf, recordOf, noNumbers, dateNumbers, dayNumbers, milliNumbers, shownNumbers, valueNumbers, countNumbers, fileNumbers, rebuiltNumbers, bodyOf}
+use Rattle.answers.specs.Record.{numberOf, recordOf, noNumbers, dateNumbers, dayNumbers, milliNumbers, shownNumbers, valueNumbers, servedNumbers, countNumbers, fileNumbers, rebuiltNumbers, bodyOf}
 use Rattle.answers.specs.Months.{suiWords, suiInto, suiNumbers}
 use Rattle.answers.specs.Fits.{inTable}
 
@@ -67,7 +68,12 @@ examples =
     ∷ sameWords (recordOf slow countNumbers) (zero9 (pos 4) (pos 15999) (pos 0))
     ∷ same (numberOf slow) (pos 4)
     ∷ sameWords (recordOf (refused 6 0) shownNumbers) (zero9 (pos 6) (pos 0) (pos 0))
-    -- the numbers of the table: 1 to 15, but for 11 and 14
+    -- of two series: 0 for near, 1 for long, and the segment
+    ∷ sameWords (recordOf (answered (record { side = near; segment = 0 })) servedNumbers) (zero9 (pos 0) (pos 0) (pos 0))
+    ∷ sameWords (recordOf (answered (record { side = near; segment = 1999 })) servedNumbers) (nine (pos 0) (pos 0) (pos 0) (pos 1999) (pos 0) (pos 0) (pos 0) (pos 0) (pos 0))
+    ∷ sameWords (recordOf (answered (record { side = long; segment = 15999 })) servedNumbers) (nine (pos 0) (pos 0) (pos 1) (pos 15999) (pos 0) (pos 0) (pos 0) (pos 0) (pos 0))
+    ∷ sameWords (recordOf (refused 18 0) servedNumbers) (zero9 (pos 18) (pos 0) (pos 0))
+    -- the numbers of the table: 1 to 18, but for 11, 14, 16 and 17
     ∷ not (inTable 0)
     ∷ inTable 1
     ∷ inTable 10
@@ -77,6 +83,9 @@ examples =
     ∷ not (inTable 14)
     ∷ inTable 15
     ∷ not (inTable 16)
+    ∷ not (inTable 17)
+    ∷ inTable 18
+    ∷ not (inTable 19)
     -- 12 months take 36 words, 13 take 39
     ∷ isAccepted (suiInto (answered (suiOf 12)) 36)
     ∷ isRefused (suiInto (answered (suiOf 12)) 35) 12

@@ -1,4 +1,4 @@
--- The numbers that an answer and a refusal carry fit a signed word, and a refusal's number is one of the rules' table, 1 to 10, 12, 13 or 15: what the functions that
+-- The numbers that an answer and a refusal carry fit a signed word, and a refusal's number is one of the rules' table, 1 to 10, 12, 13, 15 or 18: what the functions that
 -- make a record ask, and how it is shown of a chain of refusals. (`theory` shows it of each entry point.) Assumes nothing but what a statement says itself.
 use mathlib.Core.Path.{_≡_, refl}
 use mathlib.Core.Bool.{Bool, true, false, not, _&&_}
@@ -7,6 +7,7 @@ use native.Mathlib.Omega.{arith}
 use lib.Dec.{T, eqb, ltb, leb}
 use Rattle.refusals.specs.Verdict.{Verdict, answered, refused, refuseWhen, _before_, _then_}
 use Rattle.clock.specs.declared.ShownTime.{ShownTime}
+use Rattle.served.specs.Served.{Served}
 use Rattle.almanac.specs.declared.Counts.{Counts}
 use Rattle.rebuilt.specs.declared.Rebuilt.{Rebuilt}
 
@@ -15,9 +16,9 @@ abbrev pub Small : {A : Type 0} → (A → ℕ) → Verdict A → Type 0
 Small size (answered a) = size a < 2 ^ 63
 Small size (refused number segment) = segment < 2 ^ 63
 
--- 1 to 15, but for 11, which is withdrawn, and 14, which nothing here is refused by
+-- 1 to 18, but for 11, which is withdrawn, and 14, 16 and 17, which nothing here is refused by
 abbrev pub inTable : ℕ → Bool
-inTable number = (ltb 0 number && leb number 15) && (not (eqb number 11) && not (eqb number 14))
+inTable number = (ltb 0 number && leb number 18) && ((not (eqb number 11) && not (eqb number 14)) && (not (eqb number 16) && not (eqb number 17)))
 
 abbrev pub Numbered : {A : Type 0} → Verdict A → Type 0
 Numbered (answered a) = Unit {0}
@@ -42,6 +43,10 @@ shownSize t = t .hour + (t .minute + (t .second + t .millisecond))
 -- of a file
 abbrev pub fileSize : Counts → ℕ
 fileSize n = n .entries + (n .suis + n .months)
+
+-- of two series: the segment that serves
+abbrev pub servedSize : Served → ℕ
+servedSize g = g .segment
 
 -- of a rebuild
 abbrev pub rebuiltSize : Rebuilt → ℕ

@@ -12,6 +12,7 @@ use Rattle.dates.specs.declared.Date.{Date}
 use Rattle.clock.specs.declared.ShownTime.{ShownTime}
 use Rattle.series.specs.declared.Body.{Body}
 use Rattle.series.specs.declared.Body.the-variants.{Sun, Moon}
+use Rattle.served.specs.Served.{Side, near, long, Served}
 use Rattle.almanac.specs.declared.Counts.{Counts}
 use Rattle.rebuilt.specs.declared.Rebuilt.{Rebuilt}
 
@@ -45,6 +46,14 @@ shownNumbers t = t .date .year ∷ t .date .month ∷ t .date .day ∷ pos (t .h
 -- of a series: its value
 abbrev pub valueNumbers : ℤ → List ℤ
 valueNumbers value = value ∷ []
+
+-- of two series: which one serves, near 0 and long 1, and by which segment
+abbrev pub sideNumber : Side → ℤ
+sideNumber near = pos 0
+sideNumber long = pos 1
+
+abbrev pub servedNumbers : Served → List ℤ
+servedNumbers g = sideNumber (g .side) ∷ pos (g .segment) ∷ []
 
 -- how many marks, or bytes
 abbrev pub countNumbers : ℕ → List ℤ

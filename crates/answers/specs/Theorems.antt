@@ -1,4 +1,4 @@
--- What a call returns tells a C program which it is: 0 exactly where the entry point answered, else a number of the rules' table, 1 to 10, 12, 13 or 15. (`theory` shows
+-- What a call returns tells a C program which it is: 0 exactly where the entry point answered, else a number of the rules' table, 1 to 10, 12, 13, 15 or 18. (`theory` shows
 -- `Fits` of what each export answers.) Assumes nothing but what a statement says itself.
 use mathlib.Core.Path.{_≡_, refl, ap, subst}
 use mathlib.Core.Bool.{Bool, true, false, not, _&&_}
@@ -18,13 +18,15 @@ module _ {A : Type 0} {size : A → ℕ} where
   pub zero-exactly-when-answered : (v : Verdict A) → Fits size v → numberOf v ≡ pos 0 ↔ ((a : A) × (v ≡ answered a))
   zero-exactly-when-answered v f = (zero-answers v f, λ p. ap (λ (w : Verdict A). numberOf w) (p .1))
 
-  -- 1 to 15, and never 11 or 14
-  pub refused-by-the-table : {number segment : ℕ} → Fits size (refused number segment) → (0 < number) × (number ≤ 15) × (number ≡ 11 → ⊥) × (number ≡ 14 → ⊥)
+  -- 1 to 18, and never 11, 14, 16 or 17
+  pub refused-by-the-table : {number segment : ℕ} → Fits size (refused number segment) → (0 < number) × (number ≤ 18) × (number ≡ 11 → ⊥) × (number ≡ 14 → ⊥) × (number ≡ 16 → ⊥) × (number ≡ 17 → ⊥)
   refused-by-the-table {number} f =
-      let t = split (ltb 0 number && leb number 15) (not (eqb number 11) && not (eqb number 14)) (f .numbered) in
-      let range = split (ltb 0 number) (leb number 15) (t .0) in
-      let never = split (not (eqb number 11)) (not (eqb number 14)) (t .1) in
-      (ltb→lt 0 number (range .0), leb→le number 15 (range .1), λ e. subst (λ (n : ℕ). T (not (eqb n 11))) e (never .0), λ e. subst (λ (n : ℕ). T (not (eqb n 14))) e (never .1))
+      let t = split (ltb 0 number && leb number 18) ((not (eqb number 11) && not (eqb number 14)) && (not (eqb number 16) && not (eqb number 17))) (f .numbered) in
+      let range = split (ltb 0 number) (leb number 18) (t .0) in
+      let never = split (not (eqb number 11) && not (eqb number 14)) (not (eqb number 16) && not (eqb number 17)) (t .1) in
+      let early = split (not (eqb number 11)) (not (eqb number 14)) (never .0) in
+      let late = split (not (eqb number 16)) (not (eqb number 17)) (never .1) in
+      (ltb→lt 0 number (range .0), leb→le number 18 (range .1), λ e. subst (λ (n : ℕ). T (not (eqb n 11))) e (early .0), λ e. subst (λ (n : ℕ). T (not (eqb n 14))) e (early .1), λ e. subst (λ (n : ℕ). T (not (eqb n 16))) e (late .0), λ e. subst (λ (n : ℕ). T (not (eqb n 17))) e (late .1))
     where
       split : (a b : Bool) → T (a && b) → T a × T b
       split true b t = (tt, t)

@@ -12,6 +12,7 @@ use Rattle.clock.specs.Clock.{dayOfMilli}
 use Rattle.clock.specs.Answers.{leapJudged, milliOf, dayOfSecond, shownOf}
 use Rattle.series.specs.Series.{Series}
 use Rattle.series.specs.Acceptance.{seriesJudged, valueOf}
+use Rattle.served.specs.Served.{serves}
 use Rattle.replacing.specs.Replaced.{segmentReplaced, segmentChecked, heldAfter}
 use Rattle.marks.specs.Answers.{countedMarks, listedInto, wordsListed}
 use Rattle.inputs.specs.Inputs.{Inputs, inputsJudged}
@@ -25,7 +26,7 @@ use Rattle.content.specs.Content.{Content}
 use Rattle.almanac.specs.Answers.{checkedFile, contentRead, readFile, bytesToWrite, all-bytes, writtenFile}
 use Rattle.built.specs.Build.{bytesBuilt, fileBuilt}
 use Rattle.rebuilt.specs.Rebuild.{rebuilt, counted, new-bytes, kept-years}
-use Rattle.answers.specs.Record.{numberOf, recordOf, noNumbers, dateNumbers, dayNumbers, milliNumbers, shownNumbers, valueNumbers, countNumbers, fileNumbers, rebuiltNumbers}
+use Rattle.answers.specs.Record.{numberOf, recordOf, noNumbers, dateNumbers, dayNumbers, milliNumbers, shownNumbers, valueNumbers, servedNumbers, countNumbers, fileNumbers, rebuiltNumbers}
 use Rattle.answers.specs.Months.{suiInto, suiWords, suiNumbers}
 
 -- ---- the law
@@ -73,6 +74,9 @@ module _ (s : Series) where
 
   pub hzk-value-at-one-result : (second : ℤ) → OneResult (valueOf s second) valueNumbers
   hzk-value-at-one-result second = one-result (valueOf s second) valueNumbers
+
+  pub hzk-serves-one-result : (l : Series) (second : ℤ) → OneResult (serves s l second) servedNumbers
+  hzk-serves-one-result l second = one-result (serves s l second) servedNumbers
 
   module _ (number : ℕ) (part : List ℤ) where
     pub hzk-replace-segment-one-result : OneResult (segmentChecked s number part) noNumbers

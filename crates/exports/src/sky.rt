@@ -7,10 +7,11 @@ ghost use lib.ListN.{length};
 ghost use Rattle.refusals.specs.Lent.{writtenInto};
 ghost use Rattle.series.specs.Series.{series};
 ghost use Rattle.series.specs.Acceptance.{seriesJudged, valueOf};
+ghost use Rattle.served.specs.Served.{serves};
 ghost use Rattle.replacing.specs.Replaced.{segmentReplaced, segmentChecked, heldAfter};
 ghost use Rattle.marks.specs.Answers.{countedMarks, listedInto, wordsListed};
 ghost use Rattle.inputs.specs.Inputs.{inputs, inputsJudged};
-ghost use Rattle.answers.specs.Record.{numberOf, recordOf, noNumbers, valueNumbers, countNumbers, bodyOf};
+ghost use Rattle.answers.specs.Record.{numberOf, recordOf, noNumbers, valueNumbers, servedNumbers, countNumbers, bodyOf};
 
 // Which body a flag says.
 fn body_of(moon: bool) -> Body
@@ -52,6 +53,31 @@ pub extern "C" fn hzk_value_at(
         )),
         answer,
     )
+}
+
+// Which of two series of one kind serves a second, and by which segment.
+#[no_mangle]
+pub extern "C" fn hzk_serves(
+    moon: bool,
+    nearstart: i64,
+    near: &[i64],
+    longstart: i64,
+    long: &[i64],
+    second: i64,
+    answer: &mut [i64; 9],
+) -> i64
+    ensures { λ r. ⌜ r ≡ numberOf (serves (series (bodyOf moon) nearstart (now (near .entry))) (series (bodyOf moon) longstart (now (long .entry))) second) ⌝ }
+    ensures { λ r. ⌜ now (answer .exit) ≡ recordOf (serves (series (bodyOf moon) nearstart (now (near .entry))) (series (bodyOf moon) longstart (now (long .entry))) second) servedNumbers ⌝ }
+{
+    let served = serving::serves(
+        body_of(moon),
+        Second(nearstart),
+        near,
+        Second(longstart),
+        long,
+        Second(second),
+    );
+    record::tell(record::served_record(served), answer)
 }
 
 // The words of a lent part, by value: how many a result has is known, of a lent array it is not.

@@ -73,3 +73,9 @@ pub const ZONE: Refusal = Refusal {
     number: 15,
     segment: 0,
 };
+
+// 18, in place of 6: neither of two series covers the second.
+pub const NOT_COVERED: Refusal = Refusal {
+    number: 18,
+    segment: 0,
+};

@@ -16,7 +16,7 @@ use Rattle.series.specs.declared.Body.{Body}
 use Rattle.series.specs.declared.ValueAnswer.{ValueAnswer}
 use Rattle.series.specs.declared.ValueAnswer.the-variants.{Value, Refused}
 use Rattle.series.specs.Bodies.{numbers}
-use Rattle.series.specs.Series.{Series, segment, segments, valueAt, lastSecond}
+use Rattle.series.specs.Series.{Series, segment, segments, covers, valueAt}
 
 -- 2: coefficient count not a multiple of 14, none, too many, or start out of range
 abbrev pub judgedShape : Body → ℤ → ℕ → Verdict (Unit {0})
@@ -62,8 +62,7 @@ Accepted s = seriesJudged s ≡ accepted
 unfoldable pub valueOf : Series → ℤ → Verdict ℤ
 valueOf s second =
     seriesJudged s
-    before refuseWhen (ltZ second (s .start)) 6
-    before refuseWhen (ltZ (lastSecond s) second) 6
+    before refuseWhen (not (covers s second)) 6
     before answered (valueAt s second)
 
 abbrev pub paperValue : ValueAnswer → Verdict ℤ

@@ -1,11 +1,13 @@
 -- A series: a start second and fourteen coefficients a segment. Which segment has a second, and at which place; the value and the exact sum there
 -- (document 01, "Segments"). Assumes nothing: these are definitions.
+use mathlib.Core.Bool.{Bool}
 use mathlib.Core.List.{List}
 use Prim.Native.Nat.{ℕ, _*_, _/_}
 use lib.IntN.{ℤ, pos, _+ℤ_, _-ℤ_, _*ℤ_}
 use lib.Signed.{_≤ℤ_}
 use lib.ListN.{length, take, drop}
 use Rattle.whole.specs.Distance.{distanceFrom}
+use Rattle.whole.specs.Tests.{inRange}
 use Rattle.chebyshev.specs.Segment.{value, exact}
 use Rattle.series.specs.declared.Body.{Body}
 use Rattle.series.specs.Bodies.{numbers}
@@ -44,6 +46,10 @@ lastSecond s = segmentStart s (segments (s .coefs)) -ℤ pos 1
 pub record InSpan (s : Series) (second : ℤ) : Type 0 where
   pub from-start : (s .start) ≤ℤ second
   pub to-last : second ≤ℤ lastSecond s
+
+-- the same as a test: whether the series covers the second
+abbrev pub covers : Series → ℤ → Bool
+covers s second = inRange (s .start) (lastSecond s) second
 
 -- the segment that has a second
 abbrev pub segmentAt : Series → ℤ → ℕ

@@ -19,4 +19,5 @@ pub mod Selected
 pub mod Found
 pub mod Bounded
 pub mod Lent
+pub mod PartOf
 pub mod OneResult

@@ -14,21 +14,23 @@ use rebuilt::Rebuilt;
 use refusals::Check;
 use refusals::Refusal;
 use series::ValueAnswer;
+use served::ServesAnswer;
 use whole::inner::signed;
 ghost use mathlib.Core.Path.{_≡_};
 ghost use mathlib.Core.List.{_∷_};
 ghost use Prim.Native.Nat.{_^_, _<_};
 ghost use lib.IntN.{pos};
-ghost use lib.ListN.{getD};
+ghost use lib.ListN.{getD, replicate};
 ghost use Rattle.refusals.specs.Verdict.{answered, refusal, paperCheck};
 ghost use Rattle.dates.specs.Answers.{paperDate, paperDay};
 ghost use Rattle.clock.specs.Answers.{paperMilli, paperShown};
 ghost use Rattle.series.specs.Acceptance.{paperValue};
+ghost use Rattle.served.specs.Served.{paperServes};
 ghost use Rattle.marks.specs.Answers.{paperCount, paperList};
 ghost use Rattle.almanac.specs.Answers.{paperFile, paperWritten};
 ghost use Rattle.rebuilt.specs.Rebuild.{paperRebuilt};
-ghost use Rattle.answers.specs.Record.{recordOf, noNumbers, dateNumbers, dayNumbers, milliNumbers, shownNumbers, valueNumbers, countNumbers, fileNumbers, rebuiltNumbers};
-ghost use Rattle.answers.specs.Fits.{Fits, none, shownSize, fileSize, rebuiltSize, itself};
+ghost use Rattle.answers.specs.Record.{recordOf, noNumbers, dateNumbers, dayNumbers, milliNumbers, shownNumbers, valueNumbers, servedNumbers, countNumbers, fileNumbers, rebuiltNumbers};
+ghost use Rattle.answers.specs.Fits.{Fits, none, shownSize, servedSize, fileSize, rebuiltSize, itself};
 
 // Into the caller's record, and its number.
 pub fn tell(words: [i64; 9], answer: &mut [i64; 9]) -> i64
@@ -130,6 +132,26 @@ pub fn value_record(answer: ValueAnswer) -> [i64; 9]
     match answer {
         ValueAnswer::Value(v) => [0, 0, v, 0, 0, 0, 0, 0, 0],
         ValueAnswer::Refused(r) => refused(r),
+    }
+}
+
+// Which of two series serves, near 0 and long 1, and by which segment.
+fn served_words(side: i64, k: usize) -> [i64; 9]
+    requires { ⌜ k < 2 ^ 63 ⌝ }
+    ensures { λ r. ⌜ r ≡ pos 0 ∷ pos 0 ∷ side ∷ pos k ∷ replicate 5 (pos 0) ⌝ }
+{
+    let segment = signed(k);
+    [0, 0, side, segment, 0, 0, 0, 0, 0]
+}
+
+pub fn served_record(answer: ServesAnswer) -> [i64; 9]
+    requires { ⌜ Fits servedSize (paperServes answer) ⌝ }
+    ensures { λ r. ⌜ r ≡ recordOf (paperServes answer) servedNumbers ⌝ }
+{
+    match answer {
+        ServesAnswer::Near(k) => served_words(0, k),
+        ServesAnswer::Long(k) => served_words(1, k),
+        ServesAnswer::Refused(r) => refused(r),
     }
 }
 

@@ -8,12 +8,14 @@ use lib.Dec.{T, ltb, leb, eqb}
 use lib.IntN.{ℤ, pos, negℤ}
 use lib.ListN.{length, take, drop, length-append, length-drop, take-append-drop}
 use lib.Signed.{ltZ}
-use Rattle.refusals.specs.Verdict.{refused, answered-says}
+use Rattle.refusals.specs.Verdict.{answered, refused, answered-says}
 use Rattle.refusals.specs.Search.{firstBad}
 use Rattle.series.specs.Bodies.{numbers}
-use Rattle.series.specs.Series.{Series, segments, valueAt, lastSecond}
+use Rattle.series.specs.Series.{Series, segments, valueAt, lastSecond, covers}
 use Rattle.series.specs.Acceptance.{Accepted, badRange, slow, badJoint, seriesJudged, valueOf}
 use Rattle.series.specs.theory.Span.{span-few}
+use Rattle.served.specs.Served.{Side, near, long, chosen, Served, servedBy, serves}
+use Rattle.served.specs.Theorems.{segment-there}
 use Rattle.replacing.specs.Replaced.{replaced, seriesWith, segmentReplaced, segmentChecked}
 use Rattle.marks.specs.Words.{markWords}
 use Rattle.marks.specs.Listed.{listedMarks}
@@ -21,7 +23,7 @@ use Rattle.marks.specs.Answers.{countedMarks, listedInto}
 use Rattle.marks.specs.Theorems.{listed-only-when}
 use Rattle.marks.specs.theory.StretchLaws.{few}
 use Rattle.inputs.specs.Inputs.{Inputs, sun, moon, anyEarly, inputsJudged, judgedIn}
-use Rattle.answers.specs.Fits.{Fits, inTable, none, itself, answer, test, _and_, and-then, with-answer}
+use Rattle.answers.specs.Fits.{Fits, inTable, none, itself, servedSize, answer, test, _and_, and-then, with-answer}
 use Rattle.exports.specs.theory.Time.{zone-fits, leap-fits}
 
 -- ---- series: a segment that is named is one of the series'
@@ -34,7 +36,7 @@ first-bad-fits number t bad k (suc m) h = here (bad k) (first-bad-fits number t 
     here true behind = record { small = omega arith; numbered = t }
     here false behind = behind
 
-module _ (s : Series) (long : length (s .coefs) < 2 ^ 63) where
+module _ (s : Series) (few-words : length (s .coefs) < 2 ^ 63) where
   pub series-fits : Fits none (seriesJudged s)
   unfolding seriesJudged
   series-fits =
@@ -48,7 +50,7 @@ module _ (s : Series) (long : length (s .coefs) < 2 ^ 63) where
 
   pub value-fits : (second : ℤ) → Fits none (valueOf s second)
   unfolding valueOf
-  value-fits second = series-fits and test (ltZ second (s .start)) 6 tt and test (ltZ (lastSecond s) second) 6 tt and answer (omega arith)
+  value-fits second = series-fits and test (not (covers s second)) 6 tt and answer (omega arith)
 
   -- there are no more marks than seconds
   few-marks : Accepted s → length (listedMarks s) < 2 ^ 63
@@ -62,6 +64,24 @@ module _ (s : Series) (long : length (s .coefs) < 2 ^ 63) where
       with-answer (series-fits and test (ltb room (length (markWords (listedMarks s)))) 12 tt and answer (omega arith))
       (λ n e. let a = listed-only-when s room n e in let many = few-marks (a .is-accepted) in omega (arith, a .is-count))
 
+-- ---- two series: the segment that serves is one of its series'
+module _ (n l : Series) (second : ℤ) (near-fits : length (n .coefs) < 2 ^ 63) (long-fits : length (l .coefs) < 2 ^ 63) where
+  choice-fits : (x y : Bool) (g h : Served) → Fits none (cond x (answered g) (cond y (answered h) (refused 18 0)))
+  choice-fits true y g h = answer (omega arith)
+  choice-fits false true g h = answer (omega arith)
+  choice-fits false false g h = record { small = omega arith; numbered = tt }
+
+  few-segments : (side : Side) → segments (chosen side n l .coefs) < 2 ^ 63
+  few-segments near = omega arith
+  few-segments long = omega arith
+
+  all-fit : Fits none (serves n l second)
+  unfolding serves
+  all-fit = series-fits n near-fits and series-fits l long-fits and choice-fits (covers n second) (covers l second) (servedBy near n second) (servedBy long l second)
+
+  pub serves-fits : Fits servedSize (serves n l second)
+  serves-fits = with-answer all-fit (λ g e. let few = few-segments (g .side) in omega (arith, segment-there n l second e))
+
 -- ---- a segment replaced: however it is put, no more words are added than it has
 module _ (s : Series) (k : ℕ) (part : List ℤ) where
   few-more : length (replaced (s .coefs) k part) ≤ length (s .coefs) + length part
@@ -73,7 +93,7 @@ module _ (s : Series) (k : ℕ) (part : List ℤ) where
 
   pub replaced-fits : length (s .coefs) + length part < 2 ^ 63 → Fits none (segmentChecked s k part)
   unfolding segmentReplaced
-  replaced-fits long =
+  replaced-fits h =
       and-then
       (test (leb (segments (s .coefs)) k) 6 tt and series-fits (seriesWith s k part) (omega (arith, few-more)) and answer (omega arith))
       (λ coefs. answer (omega arith))

@@ -1,5 +1,7 @@
 -- Where a second of the span lies: how far from the start, in which segment, at which place; that an accepted series has a second, few enough of them, and
 -- small enough values. Assumes nothing.
+use mathlib.Core.Path.{_≡_, refl}
+use mathlib.Core.Bool.{Bool, true, false}
 use mathlib.Core.List.{[], _∷_}
 use Prim.Native.Nat.{ℕ, _*_, _%_, _<_, _≤_}
 use native.Mathlib.Omega.{arith}
@@ -13,12 +15,14 @@ use Rattle.whole.specs.Parts.{→≤}
 use Rattle.whole.specs.Laws.{abs-*}
 use Rattle.whole.specs.Solver.{⇑, ⇓, ring}
 use Rattle.whole.specs.Ranges.{Within}
+use Rattle.whole.specs.Booleans.{not-both}
+use Rattle.whole.specs.Tests.{in-range-says, says-in-range}
 use Rattle.whole.specs.Distance.{distanceFrom, distance-is, between-fits}
 use Rattle.chebyshev.specs.Polynomials.{S}
 use Rattle.analysis.specs.Theorems.{value-bound}
 use Rattle.series.specs.declared.Body.{Body}
 use Rattle.series.specs.Bodies.{numbers, BodyLaws, body-laws}
-use Rattle.series.specs.Series.{Series, segments, segmentLength, segmentStart, lastSecond, InSpan, segmentAt, placeAt, valueAt}
+use Rattle.series.specs.Series.{Series, segments, segmentLength, segmentStart, lastSecond, InSpan, covers, segmentAt, placeAt, valueAt}
 use Rattle.series.specs.Acceptance.{Accepted}
 use Rattle.series.specs.Facts.{Facts}
 use Rattle.series.specs.theory.Known.{facts}
@@ -49,6 +53,24 @@ last-within body = record { within = less (numbers body .step) (omega (arith, mu
 
     less : (q : ℕ) → q ≤ S → natAbs (pos S -ℤ pos q) ≤ S
     less q h = let ρ = pos q ∷ [] in ⇑ ρ (search ring depth 9) (omega arith, omega arith)
+
+-- what the test tells: a second that is covered is one of the span, and one that is not is none
+module _ (s : Series) {second : ℤ} where
+  pub covers-says : covers s second ≡ true → InSpan s second
+  covers-says h = let r = in-range-says (s .start) (lastSecond s) second h in record { from-start = r .0; to-last = r .1 }
+
+  pub says-covers : InSpan s second → covers s second ≡ true
+  says-covers i = says-in-range (s .start) (lastSecond s) second (i .from-start) (i .to-last)
+
+  pub not-covers-says : covers s second ≡ false → InSpan s second → ⊥
+  not-covers-says h i = not-both (says-covers i) h
+
+  pub says-not-covers : (InSpan s second → ⊥) → covers s second ≡ false
+  says-not-covers outside = go (covers s second) refl
+    where
+      go : (b : Bool) → covers s second ≡ b → covers s second ≡ false
+      go true h = absurd (outside (covers-says h))
+      go false h = h
 
 module _ (s : Series) (e : Accepted s) where
   known : Facts s

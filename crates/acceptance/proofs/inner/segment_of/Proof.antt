@@ -1,4 +1,6 @@
 -- `acceptance::inner::segment_of` meets its contract. Assumes nothing.
+use mathlib.Core.Path.{refl}
+use native.Mathlib.Omega.{arith}
 use borrow.Author.Needs.{needs}
 use Rattle.series.specs.theory.Known.{part-is-segment}
 use Rattle.acceptance.proofs.inner.segment_of.Statement.{statement}
@@ -23,7 +25,11 @@ part-result-end : tie.Need-part-result-end
 part-result-end c = search needs
 
 returns : tie.Need-returns
-returns c = part-is-segment (c .before .args .coefs .now) (c .before .args .k)
+returns c = record {
+  block = refl;
+  place = omega arith;
+  words = part-is-segment (c .before .args .coefs .now) (c .before .args .k);
+}
 
 pub segment-of-spec : {M : Type 1} → statement M
 segment-of-spec =

@@ -88,14 +88,14 @@ value-requires c κs =
     let start = part .before .before .before .before .before in
     let s = series (start .args .body) (start .args .start .0) (start .args .coefs .now) in
     let k-in = segment-in-span s (start .pre .0) (start .pre .1) in
-    rw (part .segment-of .ensures, at-segment (part .before), at-place c)
+    rw (part .segment-of .ensures .words, at-segment (part .before), at-place c)
     (segment-length (start .args .coefs .now) _ k-in, (facts s (start .pre .0) .ranged .in-range _ k-in, place-in-span s (start .pre .0) (start .pre .1)))
 
 returns : tie.Need-returns
 unfolding valueAt
 returns c =
     let part = c .before .before in
-    back (c .value .result) (c .value .ok) ∙ (rw (part .segment-of .ensures, at-segment (part .before), at-place (c .before)) at (c .value .ensures))
+    back (c .value .result) (c .value .ok) ∙ (rw (part .segment-of .ensures .words, at-segment (part .before), at-place (c .before)) at (c .value .ensures))
 
 pub value-spec : {M : Type 1} → statement M
 value-spec =

@@ -13,13 +13,13 @@ segment-of-requires c κs = search needs
 shared-slice-copy-out-result : tie.Need-shared-slice-copy-out-result
 shared-slice-copy-out-result c =
     let start = c .before in
-    rw (c .segment-of .ensures, segment-length (start .args .coefs .now) (start .args .k) (start .pre .1)) (omega arith)
+    rw (c .segment-of .ensures .words, segment-length (start .args .coefs .now) (start .args .k) (start .pre .1)) (omega arith)
 
 returns : tie.Need-returns
 returns c =
     let start = c .before .before in
     let small = start .pre .0 .ranged .in-range (start .args .k) (start .pre .1) .constant in
-    rw (c .before .segment-of .ensures, toZ-ofZ (fit-hyp small tt)) small
+    rw (c .before .segment-of .ensures .words, toZ-ofZ (fit-hyp small tt)) small
 
 pub constant-spec : {M : Type 1} → statement M
 constant-spec = tie.close (tie.spec segment-of-requires shared-slice-copy-out-result returns)

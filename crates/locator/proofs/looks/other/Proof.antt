@@ -16,13 +16,13 @@ mul-result c = search needs
 shared-slice-copy-out-result : tie.Need-shared-slice-copy-out-result
 shared-slice-copy-out-result c =
     let start = c .before in
-    rw (c .segment-of .ensures, segment-length (start .args .coefs .now) (start .args .k) (start .pre .1 .0)) (omega arith)
+    rw (c .segment-of .ensures .words, segment-length (start .args .coefs .now) (start .args .k) (start .pre .1 .0)) (omega arith)
 
 returns : tie.Need-returns
 returns c =
     let start = c .before .before in
     let small = start .pre .0 .ranged .in-range (start .args .k) (start .pre .1 .0) .others (start .args .n) (start .pre .1 .1 .0) in
-    rw (c .before .segment-of .ensures, toZ-ofZ (fit-hyp small tt)) small
+    rw (c .before .segment-of .ensures .words, toZ-ofZ (fit-hyp small tt)) small
 
 pub other-spec : {M : Type 1} → statement M
 other-spec =

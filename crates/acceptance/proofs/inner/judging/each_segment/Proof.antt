@@ -55,7 +55,7 @@ module _ (c : lts.After-out-of-range called reads.Pre reads.Post Inv-loop μ-loo
   k-of = c .before .before .before .loop .k
 
   at-part : c .before .segment-of .result .now ≡ segment coefs-of k-of
-  at-part = c .before .segment-of .ensures
+  at-part = c .before .segment-of .ensures .words
 
   at-below : k-of < segments coefs-of
   at-below = c .before .before .loop-test .taken
@@ -106,7 +106,7 @@ segment-of-requires : tie.Need-segment-of-requires Inv-loop μ-loop
 segment-of-requires c κs = c .loop-test .taken
 
 out-of-range-requires : tie.Need-out-of-range-requires Inv-loop μ-loop
-out-of-range-requires c κs = rw (c .segment-of .ensures) (segment-length (c .before .before .before .args .coefs .now) (c .before .before .loop .k) (c .before .loop-test .taken))
+out-of-range-requires c κs = rw (c .segment-of .ensures .words) (segment-length (c .before .before .before .args .coefs .now) (c .before .before .loop .k) (c .before .loop-test .taken))
 
 returns : tie.Need-returns Inv-loop μ-loop
 returns c =

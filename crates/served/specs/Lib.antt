@@ -1,0 +1,5 @@
+pub mod Served
+pub mod theory
+pub mod Theorems
+pub mod OneResult
+pub mod Examples
