@@ -1,4 +1,6 @@
 // Whole numbers of the machine: the leaf functions that other crates call. Each contract speaks of ℤ, so that no caller sees bits.
+#![tactic(auto)]
+
 ghost use Rattle.std.specs.Prelude.{◌≡◌, nat_abs};
 
 pub mod inner;

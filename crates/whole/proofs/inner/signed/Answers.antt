@@ -1,0 +1,10 @@
+-- `whole::inner::signed` meets its contract. Assumes nothing.
+use borrow.Author.Rules.{rules}
+use mir.Facts.{to_z-of_z}
+use Rattle.whole.proofs.inner.signed.Goals as goal
+
+pub overflow_cast-result : goal.overflow_cast-result
+overflow_cast-result c = search rules
+
+pub returns : goal.returns
+returns c = to_z-of_z (overflow_cast-result c)

@@ -1,0 +1,383 @@
+#!/usr/bin/env python3
+"""Writes the proofs of a crate in today's form: a Proof.antt that hands its answers to `tie.spec` becomes Invariants.antt and Answers.antt.
+
+usage: tools/to_answers.py NAMES CRATE..
+
+NAMES is the folder of names.json files, NAMES/CRATE/names.json, which `rt check --generated NAMES/CRATE --old-names` writes in crates/CRATE.
+Answers that only search are left out: the check finds them. What it cannot turn it leaves, and says so.
+"""
+import json
+import os
+import re
+import sys
+
+NAME = r"[^\s(){}.;,@\"«»:]+"
+TOKEN = re.compile(r"[^\s(){}.;,@\"«»]+")
+OWN = {"type-inv": "type_inv", "well-formed": "well_formed", "x-is": "x-is", "len-below": "len_below", "len-at-least": "len_at_least"}
+TRIVIAL = re.compile(r"^\s*(?:let [^=]* = [^=]* in\s*)?(?:search rules(?: depth \d+)?|search \(rules\)|tt)\s*$")
+
+
+def norm(name):
+    return name.replace("_", "-")
+
+
+def blocks(text):
+    """The declarations of a file: (comment, name, signature, clauses), uses and other text apart."""
+    uses, out, comment, cur = [], [], [], None
+    for line in text.splitlines():
+        if re.match(r"(pub )?use ", line):
+            uses.append(line)
+            cur = None
+            continue
+        if line.startswith("--"):
+            comment.append(line)
+            cur = None
+            continue
+        if not line.strip():
+            continue
+        m = re.match(r"((?:abbrev |pub |unfoldable |opaque )*)(" + NAME + r") :(?: (.*)|)$", line)
+        if m and not line.startswith(" "):
+            cur = {"comment": comment, "mods": m.group(1), "name": m.group(2), "lines": [line], "sig": m.group(3) or ""}
+            comment = []
+            out.append(cur)
+            continue
+        if cur is None:
+            cur = {"comment": comment, "mods": "", "name": "", "lines": [line], "sig": ""}
+            comment = []
+            out.append(cur)
+            continue
+        cur["lines"].append(line)
+    return uses, out, comment
+
+
+def split_args(text):
+    """The arguments of an application, by parentheses."""
+    args, depth, cur = [], 0, ""
+    for c in text:
+        if c in "({[":
+            depth += 1
+        if c in ")}]":
+            depth -= 1
+        if c.isspace() and depth == 0:
+            if cur:
+                args.append(cur)
+            cur = ""
+        else:
+            cur += c
+    if cur:
+        args.append(cur)
+    return args
+
+
+def tuple_parts(text):
+    """The parts of a tuple `(a, b)`, or None."""
+    text = text.strip()
+    if not text.startswith("("):
+        return None
+    parts, depth, cur = [], 0, ""
+    for i, c in enumerate(text):
+        if c in "({[":
+            depth += 1
+            if depth == 1:
+                continue
+        if c in ")}]":
+            depth -= 1
+            if depth == 0:
+                if text[i + 1 :].strip():
+                    return None
+                break
+        if c == "," and depth == 1:
+            parts.append(cur.strip())
+            cur = ""
+        else:
+            cur += c
+    parts.append(cur.strip())
+    parts = [p for p in parts if p]
+    return parts if len(parts) > 1 else None
+
+
+def named(body, fields):
+    """A tuple at the end of a body as a record of the clauses' names."""
+    m = list(re.finditer(r"(?:^|\s)in(?=\s)", body))
+    at = 0
+    for k in reversed(m):
+        head = body[: k.end()]
+        if head.count("(") == head.count(")"):
+            at = k.end()
+            break
+    tail = body[at:]
+    parts = tuple_parts(tail)
+    if not parts:
+        return None
+    while len(parts) < len(fields):
+        more = tuple_parts(parts[-1])
+        if not more:
+            return None
+        parts = parts[:-1] + more
+    if len(parts) != len(fields):
+        return None
+    return body[:at] + " record { " + "; ".join(f"{f} = {p}" for f, p in zip(fields, parts)) + " }"
+
+
+class Function:
+    def __init__(self, names, crate, path, ensures):
+        self.ensures = ensures
+        d = names.get(f"Rattle-{crate}-proofs.{path}.Lts")
+        self.known = d is not None
+        if d is None:
+            return
+        self.needs = {norm(a): b for a, b in d["needs"]}
+        self.cited = {}
+        self.order = d["needs"]
+        self.asked = d.get("asked") or {}
+        self.steps, self.places, self.clauses = {}, {}, {}
+        for i, p in enumerate(d["places"]):
+            self.places[norm(p[0])] = d["places_by_name"][i]
+            if p[2] and p[2][0]:
+                self.steps[norm(p[2][0])] = p[2][1]
+                if d["clauses"][i]:
+                    self.clauses[p[2][1]] = d["clauses"][i]
+        self.loops = [(a, b, v, d["changed"][i]) for i, ((a, b), v) in enumerate(d["loops"])]
+        self.pre = (d.get("pre") or {}).get("fields")
+        self.args = {a: b for a, b in d["args"]} if d["args"] and isinstance(d["args"][0], list) else {}
+
+    def terms(self, text):
+        """A term with today's names."""
+        used = set()
+
+        def place(m):
+            n = self.places.get(norm(m.group(1)))
+            if not n:
+                return m.group(0)
+            used.add(n)
+            return n
+
+        text = re.sub(r"\b(?:lts|tie)\.((?:At|In|After|Then|Else|Start|Joined|Case)[^\s(){}.;,]*)((?: called)?(?: \([^()]*\))?(?: reads\.Pre reads\.Post)?(?: (?:invariant|decreases)[^\s(){}.;,]*)*)", place, text)
+
+        def step(m):
+            w, i = m.group(0), m.start()
+            if not (i and text[i - 1] == "."):
+                return self.cited.get(w, w)
+            n = norm(w)
+            m2 = re.search(r"([.]?)([^\s(){}.;,]+)\.$", text[:i])
+            before = m2.group(2) if m2 and m2.group(1) else ""
+            if before in ("args", "ranges", "new", "initial", "auto", "entry", "type_inv", "type-inv") or before in self.steps.values() or norm(before) in self.steps:
+                return OWN.get(n, w)
+            if n in OWN:
+                return OWN[n]
+            if n in self.args:
+                return self.args[n]
+            if n in self.steps and (text[m.end() : m.end() + 1] == "." or n.startswith(("loop", "if"))):
+                return self.steps[n]
+            return w
+
+        text = TOKEN.sub(step, text)
+        if self.pre:
+            text = re.sub(r"\.requires((?:\.[01](?![\w-]))+)", lambda m: ".requires" + chain(m.group(1), self.pre), text)
+        for s, fields in self.clauses.items():
+            text = re.sub(r"\." + re.escape(s) + r"\.ensures((?:\.[01](?![\w-]))+)", lambda m: f".{s}.ensures" + chain(m.group(1), fields), text)
+        return text, used
+
+
+def chain(text, fields):
+    """`.1.0` among three clauses a, b, c is `.b`; what is left goes on."""
+    digits = [int(x) for x in text.split(".")[1:]]
+    at = 0
+    while digits and at < len(fields) - 1:
+        d = digits.pop(0)
+        if d == 0:
+            return "." + fields[at] + "".join(f".{x}" for x in digits)
+        at += 1
+    return "." + fields[at] + "".join(f".{x}" for x in digits)
+
+
+def contracts(crate):
+    """The names of each function's `ensures`, by the function's path."""
+    out = {}
+    src = os.path.join("crates", crate, "src")
+    for folder, _, names in os.walk(src):
+        for n in names:
+            if not n.endswith(".rt"):
+                continue
+            p = os.path.relpath(os.path.join(folder, n), src)[:-3]
+            mod = "" if p in ("lib", "main") else p.replace("/", ".").removesuffix(".mod") + "."
+            text = open(os.path.join(folder, n), encoding="utf-8").read()
+            for m in re.finditer(r"^(?:pub )?(?:extern \"C\" )?fn (\w+)[^\n]*((?:\n(?!\{|\}|fn|pub).*)*)", text, re.M):
+                out[mod + m.group(1)] = re.findall(r"ensures (\w+) \{", m.group(0))
+    return out
+
+
+def turn(names, crate, folder, said, ensures):
+    path = os.path.relpath(folder, os.path.join("crates", crate, "proofs")).replace("/", ".")
+    text = open(os.path.join(folder, "Proof.antt"), encoding="utf-8").read()
+    if "tie.spec" not in text:
+        said.append(f"left: {folder}: a walk by hand")
+        return
+    f = Function(names, crate, path, ensures.get(path, []))
+    if not f.known:
+        said.append(f"left: {folder}: no names")
+        return
+    uses, decls, _ = blocks(text)
+    head = []
+    for line in text.splitlines():
+        if not line.startswith("--"):
+            break
+        head.append(line)
+    if decls and decls[0]["comment"][: len(head)] == head:
+        decls[0]["comment"] = decls[0]["comment"][len(head) :]
+    invariants, answers, used = [], [], set()
+    spec_args = None
+    def goal_of(d):
+        m = re.match(r"tie\.Need-(\S+)", d["sig"])
+        if not m:
+            return None
+        n = norm(m.group(1))
+        return f.needs.get(n) or f.needs.get(re.sub(r"^(overflow|nonzero)-", "", n))
+
+    words = set()
+    for d in decls:
+        if "tie.spec" in "\n".join(d["lines"]):
+            continue
+        for x in d["lines"]:
+            words.update(w for w in TOKEN.findall(x) if w != d["name"])
+    f.cited = {d["name"]: goal_of(d) for d in decls if goal_of(d) and d["name"] in words}
+    for d in decls:
+        body = "\n".join(d["lines"])
+        sig = " ".join(x.strip() for x in d["lines"] if True)
+        comment = [c for c in d["comment"] if not re.match(r"-- -+", c)]
+        m = re.match(r"tie\.(invariant|decreases)-(\S+)", d["sig"])
+        if m:
+            loop = next((x for x in f.loops if norm(x[0]) == norm(m.group(2))), None)
+            if not loop:
+                said.append(f"left: {folder}: {d['name']}")
+                continue
+            _, new, variables, changed = loop
+            clause = re.search(r"^" + re.escape(d["name"]) + r"((?: \S+)*) =(?=\s)(.*)", body, re.M | re.S)
+            if not clause:
+                said.append(f"left: {folder}: {d['name']} has another form")
+                continue
+            params = clause.group(1).split()
+            term = clause.group(2).strip()
+            values = [("l.initial." if c else "l.") + v for v, c in zip(variables, changed)] + ["l." + v for v, c in zip(variables, changed) if c]
+            if len(values) != len(params):
+                said.append(f"look: {folder}: {d['name']} has {len(params)} parameters, and {len(values)} were expected: {values}")
+            for p, v in sorted(zip(params, values), key=lambda x: -len(x[0])):
+                if p != "_":
+                    term = re.sub(r"\bto_z w\d+ " + re.escape(p) + r"(?![\w'₀-])", v, term)
+                    term = re.sub(r"(?<![\w.'₀-])" + re.escape(p) + r"(?![\w'₀-])", v, term)
+            n = f"{m.group(1)}-{new}"
+            sep = "\n    " if "\n" in term else " "
+            invariants.append("\n".join(comment + [f"abbrev pub {n} : goal.{n}", f"{n} l ={sep}{term}"]))
+            continue
+        m = re.match(r"tie\.Need-(\S+)", d["sig"])
+        if m:
+            new = goal_of(d)
+            if not new:
+                said.append(f"left: {folder}: {d['name']} : Need-{m.group(1)} has no goal")
+                continue
+            unf = [x for x in d["lines"] if x.startswith("unfolding")]
+            clause = re.search(r"^" + re.escape(d["name"]) + r" (\S+)((?: \S+)*) =(?=\s)(.*)", body, re.M | re.S)
+            if not clause:
+                clause = re.search(r"^" + re.escape(d["name"]) + r"() ?((?: \S+)*)=(?=\s)(.*)", body, re.M | re.S)
+            if not clause:
+                said.append(f"left: {folder}: {d['name']} has another form")
+                continue
+            term = clause.group(3)
+            if TRIVIAL.match(term) and not unf and d["name"] not in f.cited:
+                continue
+            term, u = f.terms(term)
+            used |= u
+            fields = f.asked.get(m.group(1)) or f.asked.get(norm(m.group(1))) or next((v for k, v in f.asked.items() if norm(k) == norm(m.group(1))), None)
+            if new.startswith("returns") and len(f.ensures) > 1:
+                fields = f.ensures
+            if fields and len(fields) > 1:
+                other = named(term, fields)
+                if other:
+                    term = other
+                else:
+                    said.append(f"look: {folder}: {new} has the clauses {fields}")
+            more = clause.group(2)
+            if re.search(r"\bκs$", more) and not re.search(r"(?<![\w'])κs(?![\w'])", term):
+                more = re.sub(r" κs$", "", more)
+            answers.append("\n".join(comment + [f"pub {new} : goal.{new}"] + unf + [f"{new} {clause.group(1)}{more} ={term.rstrip()}"]))
+            continue
+        if "statement" in d["sig"] or re.search(r"\btie\.spec\b", body):
+            t = body[body.index("tie.spec") + 8 :]
+            t = re.sub(r"--[^\n]*", "", t)
+            while t.count(")") > t.count("("):
+                t = t.rstrip()[:-1]
+            spec_args = split_args(t)
+            continue
+        if d["name"] == "called" or re.match(r"lts\.Claims", d["sig"]):
+            continue
+        body, u = f.terms(body)
+        used |= u
+        answers.append("\n".join(comment + [body]))
+    if spec_args:
+        rest = [a for a in spec_args if not re.match(r"(invariant|decreases)", a) and a != "called"]
+        if len(rest) != len(f.order):
+            said.append(f"look: {folder}: tie.spec has {len(rest)} answers, and there are {len(f.order)} goals")
+        for a, (_, new) in zip(rest, f.order):
+            m = re.match(r"\(λ (\S+)\.(.*)\)$", a, re.S)
+            if m and not TRIVIAL.match(m.group(2)):
+                term, u = f.terms(m.group(2))
+                used |= u
+                fields = next((v for k, v in f.asked.items() if norm(k) == norm(_)), None)
+                if fields and len(fields) > 1:
+                    term = named(term, fields) or term
+                term = re.sub(r"^ λ κs\. ", " ", term) if not re.search(r"κs", term[6:]) else term
+                answers.append(f"pub {new} : goal.{new}\n{new} {m.group(1)} ={term}")
+    for kind, parts in (("Invariants", invariants), ("Answers", answers)):
+        if not parts:
+            continue
+        own = f"Rattle.{crate}.proofs.{path}"
+        lines = list(head)
+        for u in uses:
+            if re.search(re.escape(own) + r"\.(Statement|Tie|Reads|Lts|Code)\b", u):
+                continue
+            lines.append(u)
+        lines.append(f"use {own}.{'Given' if kind == 'Invariants' else 'Goals'} as goal")
+        if kind == "Answers" and used:
+            lines.append(f"use {own}.Goals.{{{', '.join(sorted(used))}}}")
+        body = "\n\n".join(parts)
+        lines = [x for x in lines if not x.startswith("use ") or needed(x, body)]
+        with open(os.path.join(folder, kind + ".antt"), "w", encoding="utf-8") as out:
+            out.write("\n".join(lines) + "\n\n" + body + "\n")
+    os.remove(os.path.join(folder, "Proof.antt"))
+
+
+def needed(use, body):
+    """Whether a `use` line brings a word that the text has; a list of names is kept whole."""
+    words = set(TOKEN.findall(body))
+    m = re.search(r" as (\S+)$", use)
+    if m:
+        return re.search(r"(?<![\w.-])" + re.escape(m.group(1)) + r"\.", body) is not None
+    m = re.search(r"\{([^}]*)\}", use)
+    if not m:
+        return True
+    for n in m.group(1).split(","):
+        n = n.strip().split(" as ")[-1]
+        parts = [p for p in n.split("◌") if p]
+        if "◌" in n:
+            if all(any(p in w for w in words) for p in parts):
+                return True
+        elif n in words:
+            return True
+    return False
+
+
+def main(argv):
+    top, said = argv[0], []
+    for crate in argv[1:]:
+        with open(os.path.join(top, crate, "names.json")) as f:
+            names = json.load(f)
+        ensures = contracts(crate)
+        for folder, _, files in sorted(os.walk(os.path.join("crates", crate, "proofs"))):
+            if "Proof.antt" in files:
+                turn(names, crate, folder, said, ensures)
+    print("\n".join(said))
+    return 0
+
+
+if __name__ == "__main__":
+    raise SystemExit(main(sys.argv[1:]))
