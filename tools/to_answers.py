@@ -47,6 +47,14 @@ def blocks(text):
             out.append(cur)
             continue
         cur["lines"].append(line)
+    for d in out:
+        if d["name"] and not d["sig"]:
+            more = []
+            for line in d["lines"][1:]:
+                if not line.startswith(" "):
+                    break
+                more.append(line.strip())
+            d["sig"] = " ".join(more)
     return uses, out, comment
 
 
@@ -138,6 +146,7 @@ class Function:
                 if d["clauses"][i]:
                     self.clauses[p[2][1]] = d["clauses"][i]
         self.loops = [(a, b, v, d["changed"][i]) for i, ((a, b), v) in enumerate(d["loops"])]
+        self.bits = {(p[2][1], a): b for p in d["places"] for a, b in p[4] if b == a + "-bits"}
         self.pre = (d.get("pre") or {}).get("fields")
         self.args = {a: b for a, b in d["args"]} if d["args"] and isinstance(d["args"][0], list) else {}
 
@@ -172,6 +181,10 @@ class Function:
             return w
 
         text = TOKEN.sub(step, text)
+        for (s, a), b in self.bits.items():
+            path = r"(?:[^\s(){}.;,]+\.)+" + re.escape(s) + r"\." + re.escape(a) + r"(?![\w'-])"
+            text = re.sub(r"\bto_z w\d+ (" + path + ")", r"\1⟪", text)
+            text = re.sub("(" + path + ")(?!⟪)", lambda m: m.group(1)[: -len(a)] + b, text).replace("⟪", "")
         if self.pre:
             text = re.sub(r"\.requires((?:\.[01](?![\w-]))+)", lambda m: ".requires" + chain(m.group(1), self.pre), text)
         for s, fields in self.clauses.items():
@@ -258,13 +271,15 @@ def turn(names, crate, folder, said, ensures):
                 continue
             params = clause.group(1).split()
             term = clause.group(2).strip()
+            bits = {v: f.bits.get((new, v), v) for v in variables}
             values = [("l.initial." if c else "l.") + v for v, c in zip(variables, changed)] + ["l." + v for v, c in zip(variables, changed) if c]
+            raw = [v if bits[x] == x else f"(of_z w64 {v})" for v, x in zip(values, variables + [x for x, c in zip(variables, changed) if c])]
             if len(values) != len(params):
                 said.append(f"look: {folder}: {d['name']} has {len(params)} parameters, and {len(values)} were expected: {values}")
-            for p, v in sorted(zip(params, values), key=lambda x: -len(x[0])):
+            for p, v, b in sorted(zip(params, values, raw), key=lambda x: -len(x[0])):
                 if p != "_":
                     term = re.sub(r"\bto_z w\d+ " + re.escape(p) + r"(?![\w'₀-])", v, term)
-                    term = re.sub(r"(?<![\w.'₀-])" + re.escape(p) + r"(?![\w'₀-])", v, term)
+                    term = re.sub(r"(?<![\w.'₀-])" + re.escape(p) + r"(?![\w'₀-])", b, term)
             n = f"{m.group(1)}-{new}"
             sep = "\n    " if "\n" in term else " "
             invariants.append("\n".join(comment + [f"abbrev pub {n} : goal.{n}", f"{n} l ={sep}{term}"]))

@@ -1,4 +1,6 @@
 // A refusal: its number, as document 01's table gives it, and for 3 to 5 the first such segment, else zero.
+#![tactic(auto)]
+
 #[derive(Drop)]
 pub struct Refusal {
     pub number: u8,

@@ -1,4 +1,5 @@
 // The three counts of time (document 01): each its own kind, so that one is never handed over where another is expected.
+#![tactic(auto)]
 
 // A TDB second, counted from 2000-01-01 00:00:00 TDB.
 #[derive(Drop)]
