@@ -115,16 +115,37 @@ def named(body, fields):
             break
     tail = body[at:]
     parts = tuple_parts(tail)
+    begin = ""
     if not parts:
-        return None
-    while len(parts) < len(fields):
-        more = tuple_parts(parts[-1])
-        if not more:
+        # `rw L (a, b)`: the tuple is the last argument
+        m = re.match(r"\s*(?:rw|simp) ", tail)
+        s = tail.rstrip()
+        if m and s.endswith(")"):
+            depth = 0
+            for i in range(len(s) - 1, -1, -1):
+                depth += (s[i] in ")}]") - (s[i] in "({[")
+                if depth == 0:
+                    break
+            parts = tuple_parts(s[i:])
+            begin = s[:i]
+    if parts:
+        while len(parts) < len(fields):
+            more = tuple_parts(parts[-1])
+            if not more:
+                return None
+            parts = parts[:-1] + more
+        if len(parts) != len(fields):
             return None
-        parts = parts[:-1] + more
-    if len(parts) != len(fields):
+    elif re.match(r"\s*(?:rw|simp|search|elim|λ|omega|cc|grind)\b", tail):
         return None
-    return body[:at] + " record { " + "; ".join(f"{f} = {p}" for f, p in zip(fields, parts)) + " }"
+    else:
+        t = tail.strip()
+        parts = [f"({t})" + ".1" * i + (".0" if i + 1 < len(fields) else "") for i in range(len(fields))]
+    made = "record { " + "; ".join(f"{f} = {p}" for f, p in zip(fields, parts)) + " }"
+    return body[:at] + (begin + "(" + made + ")" if begin else " " + made)
+
+
+TOLD = re.compile(r"_told\d*(?:-|$)|shared_slice_known|_known\d*(?:-|$)")
 
 
 class Function:
@@ -139,23 +160,73 @@ class Function:
         self.order = d["needs"]
         self.asked = d.get("asked") or {}
         self.steps, self.places, self.clauses = {}, {}, {}
+        self.parent = {norm(p[0]): norm(p[1]) if p[1] else None for p in d["places"]}
+        self.at = {b: norm(a[0]) for (_, b), a in zip(d["needs"], d["asked_at"])}
         for i, p in enumerate(d["places"]):
             self.places[norm(p[0])] = d["places_by_name"][i]
             if p[2] and p[2][0]:
                 self.steps[norm(p[2][0])] = p[2][1]
-                if d["clauses"][i]:
-                    self.clauses[p[2][1]] = d["clauses"][i]
+                if d["clauses"][i] and d["clauses"][i].get("fields"):
+                    self.clauses[p[2][1]] = d["clauses"][i]["fields"]
         self.loops = [(a, b, v, d["changed"][i]) for i, ((a, b), v) in enumerate(d["loops"])]
         self.bits = {(p[2][1], a): b for p in d["places"] for a, b in p[4] if b == a + "-bits"}
         self.pre = (d.get("pre") or {}).get("fields")
         self.args = {a: b for a, b in d["args"]} if d["args"] and isinstance(d["args"][0], list) else {}
 
-    def terms(self, text):
+    def chain(self, text, env):
+        """Paths by `.before`: a field is named at once, and a place is reached over the places that are left."""
+        env = dict(env)
+
+        def up(at, k):
+            for _ in range(k):
+                at = self.parent.get(at) if at else None
+            return at
+
+        def steps(a, b):
+            n = 0
+            while a and a != b:
+                a = self.parent.get(a)
+                n += not (a and TOLD.search(self.places.get(a, "")))
+            return n
+
+        def one(m):
+            let, name, befores, rest = m.group(1), m.group(2), m.group(3), m.group(4)
+            if name not in env:
+                return m.group(0)
+            k = befores.count(".before")
+            q = up(env[name], k)
+            if not q:
+                return m.group(0)
+            if rest:
+                return (let or "") + name + rest
+            out = name + ".before" * steps(env[name], q)
+            if let and re.match(r"\s+in\b", text[m.end() :]):
+                env[let.split()[1]] = q
+            return (let or "") + out
+
+        return re.sub(r"(let [^\s(){}.;,:]+ = )?(?<![\w.'₀-])([A-Za-z_][\w'-]*)((?:\.before(?![\w'-]))*)(\.[A-Za-z][^\s(){}.;,]*)?(?![\w'])", one, text)
+
+    def binders(self, text):
+        """The variables of a declaration that stand for places."""
+        env = {}
+        for m in re.finditer(r"\(([^\s(){}:]+) : (?:lts|tie)\.([^\s(){}.;,]+)", text):
+            if norm(m.group(2)) in self.places:
+                env[m.group(1)] = norm(m.group(2))
+        for m in re.finditer(r"^\s+(?:abbrev |pub )*([^\s(){}:]+) : (?:lts|tie)\.([^\s(){}.;,]+)", text, re.M):
+            if norm(m.group(2)) in self.places:
+                env[m.group(1)] = norm(m.group(2))
+        return env
+
+    def terms(self, text, env):
         """A term with today's names."""
         used = set()
+        text = self.chain(text, env)
 
         def place(m):
-            n = self.places.get(norm(m.group(1)))
+            n = norm(m.group(1))
+            while n and TOLD.search(self.places.get(n, "")) and self.parent.get(n):
+                n = self.parent[n]
+            n = self.places.get(n)
             if not n:
                 return m.group(0)
             used.add(n)
@@ -184,7 +255,7 @@ class Function:
         for (s, a), b in self.bits.items():
             path = r"(?:[^\s(){}.;,]+\.)+" + re.escape(s) + r"\." + re.escape(a) + r"(?![\w'-])"
             text = re.sub(path, lambda m: m.group(0)[: -len(a)] + b, text)
-        text = re.sub(r"\bto_z-of_z \((record \{|fit_hyp )(?!\{)", r"to_z-of_z {w = w64} (\1", text)
+        text = re.sub(r"\bto_z-of_z \(", r"to_z-of_z {w = w64} (", text)
         if self.pre:
             text = re.sub(r"\.(?:requires|pre)((?:\.[01](?![\w-]))+)", lambda m: ".requires" + chain(m.group(1), self.pre), text)
         for s, fields in self.clauses.items():
@@ -290,6 +361,8 @@ def turn(names, crate, folder, said, ensures):
             if not new:
                 said.append(f"left: {folder}: {d['name']} : Need-{m.group(1)} has no goal")
                 continue
+            if TOLD.search(new) and d["name"] not in f.cited:
+                continue
             unf = [x for x in d["lines"] if x.startswith("unfolding")]
             clause = re.search(r"^" + re.escape(d["name"]) + r" (\S+)((?: \S+)*) =(?=\s)(.*)", body, re.M | re.S)
             if not clause:
@@ -300,7 +373,7 @@ def turn(names, crate, folder, said, ensures):
             term = clause.group(3)
             if TRIVIAL.match(term) and not unf and d["name"] not in f.cited:
                 continue
-            term, u = f.terms(term)
+            term, u = f.terms(term, {clause.group(1): f.at.get(new)})
             used |= u
             fields = f.asked.get(m.group(1)) or f.asked.get(norm(m.group(1))) or next((v for k, v in f.asked.items() if norm(k) == norm(m.group(1))), None)
             if new.startswith("returns") and len(f.ensures) > 1:
@@ -312,8 +385,7 @@ def turn(names, crate, folder, said, ensures):
                 else:
                     said.append(f"look: {folder}: {new} has the clauses {fields}")
             more = clause.group(2)
-            if re.search(r"\bκs$", more) and not re.search(r"(?<![\w'])κs(?![\w'])", term):
-                more = re.sub(r" κs$", "", more)
+            more = re.sub(r" κs$", "", more)
             answers.append("\n".join(comment + [f"pub {new} : goal.{new}"] + unf + [f"{new} {clause.group(1)}{more} ={term.rstrip()}"]))
             continue
         if "statement" in d["sig"] or re.search(r"\btie\.spec\b", body):
@@ -325,7 +397,7 @@ def turn(names, crate, folder, said, ensures):
             continue
         if d["name"] == "called" or re.match(r"lts\.Claims", d["sig"]):
             continue
-        body, u = f.terms(body)
+        body, u = f.terms(body, f.binders(body))
         used |= u
         helpers.append((d["name"], "\n".join(comment + [body]), u, d["mods"]))
         answers.append(helpers[-1])
@@ -336,7 +408,7 @@ def turn(names, crate, folder, said, ensures):
         for a, (_, new) in zip(rest, f.order):
             m = re.match(r"\(λ (\S+)\.(.*)\)$", a, re.S)
             if m and not TRIVIAL.match(m.group(2)):
-                term, u = f.terms(m.group(2))
+                term, u = f.terms(m.group(2), {m.group(1): f.at.get(new)})
                 used |= u
                 fields = next((v for k, v in f.asked.items() if norm(k) == norm(_)), None)
                 if fields and len(fields) > 1:
