@@ -161,6 +161,10 @@ class Function:
         self.asked = d.get("asked") or {}
         self.steps, self.places, self.clauses = {}, {}, {}
         self.parent = {norm(p[0]): norm(p[1]) if p[1] else None for p in d["places"]}
+        self.steps_of = {norm(p[0]): p[2][1] for p in d["places"] if p[2]}
+        kinds = {norm(p[0]): v for p, v in zip(d["places"], d["typed"])}
+        self.skipped = {n for n in self.places if re.search("enum-told|known-told", n) and kinds[n] == kinds.get(self.parent[n])}
+        self.viewed = {norm(p[0]): bool(v) for p, v in zip(d["places"], d["typed"])}
         self.at = {b: norm(a[0]) for (_, b), a in zip(d["needs"], d["asked_at"])}
         for i, p in enumerate(d["places"]):
             self.places[norm(p[0])] = d["places_by_name"][i]
@@ -173,9 +177,16 @@ class Function:
         self.pre = (d.get("pre") or {}).get("fields")
         self.args = {a: b for a, b in d["args"]} if d["args"] and isinstance(d["args"][0], list) else {}
 
-    def chain(self, text, env):
+    def chain(self, text, env, goal=None):
         """Paths by `.before`: a field is named at once, and a place is reached over the places that are left."""
-        env = dict(env)
+        # a name for a place is written out, so that each path begins at the goal
+        for _ in range(99):
+            m = next((m for m in reversed(list(re.finditer(r"(?<![\w'])let ([^\s(){}.;,:]+) = ([A-Za-z_][\w'-]*)((?:\.before(?![\w'-]))+) in(?: |(\n) *)", text))) if m.group(2) in env), None)
+            if not m:
+                break
+            head, rest = text[: m.start()], text[m.end() :]
+            rest = re.sub(r"(?<![\w.'₀-])" + re.escape(m.group(1)) + r"(?![\w'₀-])(?! : )", lambda _m: m.group(2) + m.group(3), rest)
+            text = head + rest
 
         def up(at, k):
             for _ in range(k):
@@ -183,28 +194,38 @@ class Function:
             return at
 
         def steps(a, b):
-            n = 0
+            n = 1 if goal and a != b and self.viewed.get(a) else 0
             while a and a != b:
                 a = self.parent.get(a)
-                n += not (a and TOLD.search(self.places.get(a, "")))
+                n += a not in self.skipped
             return n
 
         def one(m):
-            let, name, befores, rest = m.group(1), m.group(2), m.group(3), m.group(4)
+            name, befores, rest = m.group(1), m.group(2), m.group(3)
             if name not in env:
                 return m.group(0)
-            k = befores.count(".before")
-            q = up(env[name], k)
+            line = text[text.rfind("\n", 0, m.start()) + 1 : m.start()]
+            after = text[m.end() : m.end() + 40]
+            if not befores and not rest and re.match(r"[^\s(){}:=]+(?: [^\s(){}:=]+)* $", line) and re.match(r"(?: [^\s(){}:=]+)* =\s", after):
+                return m.group(0)
+            if rest and re.search(r"\.given\.1$", rest):
+                arm = env[name]
+                while arm and not re.match(r"in[-_]", self.steps_of.get(arm, "")):
+                    arm = self.parent.get(arm)
+                if arm:
+                    return f"{name}.{self.steps_of[arm]}.is"
+            if rest and re.search(r"\.given$", rest):
+                return "(omega arith)"
+            q = up(env[name], befores.count(".before"))
             if not q:
                 return m.group(0)
             if rest:
-                return (let or "") + name + rest
-            out = name + ".before" * steps(env[name], q)
-            if let and re.match(r"\s+in\b", text[m.end() :]):
-                env[let.split()[1]] = q
-            return (let or "") + out
+                return name + rest
+            while TOLD.search(self.places.get(q, "")) and self.parent.get(q):
+                q = self.parent[q]
+            return name + ".before" * steps(env[name], q)
 
-        return re.sub(r"(let [^\s(){}.;,:]+ = )?(?<![\w.'₀-])([A-Za-z_][\w'-]*)((?:\.before(?![\w'-]))*)(\.[A-Za-z][^\s(){}.;,]*)?(?![\w'])", one, text)
+        return re.sub(r"(?<![\w.'₀-])([A-Za-z_][\w'-]*)((?:\.before(?![\w'-]))*)((?:\.[^\s(){}.;,]+)*)(?![\w'])(?! :)", one, text)
 
     def binders(self, text):
         """The variables of a declaration that stand for places."""
@@ -217,10 +238,10 @@ class Function:
                 env[m.group(1)] = norm(m.group(2))
         return env
 
-    def terms(self, text, env):
+    def terms(self, text, env, goal=None):
         """A term with today's names."""
         used = set()
-        text = self.chain(text, env)
+        text = self.chain(text, env, goal)
 
         def place(m):
             n = norm(m.group(1))
@@ -252,6 +273,12 @@ class Function:
             return w
 
         text = TOKEN.sub(step, text)
+        path = r"(?:[^\s(){}.;,]+\.)*[^\s(){}.;,]+"
+        text = re.sub(r"(\.loop[^\s(){}.;,]*)\.inv\b", r"\1.invariant", text)
+        text = re.sub(r"\bap not \(sym (" + path + r")\) ∙ (" + path + r"\.if-not-[^\s(){}.;,]+\.(?:true|false))", r"ap not (sym \1 ∙ \2)", text)
+        text = re.sub(r"\bnot-(?:true|false) " + path + r" \(?(" + path + r"\.if-not-[^\s(){}.;,]+\.(?:true|false))\)?", r"\1", text)
+        text = re.sub(r"\bback (" + path + r") " + path + r"told[^\s(){};,]*\.given[^\s(){};,]*", r"back \1 (omega arith)", text)
+        text = re.sub(r"\((fits_of _ )?" + path + r"\.given\)", r"(\1(omega arith))", text) if False else text
         for (s, a), b in self.bits.items():
             path = r"(?:[^\s(){}.;,]+\.)+" + re.escape(s) + r"\." + re.escape(a) + r"(?![\w'-])"
             text = re.sub(path, lambda m: m.group(0)[: -len(a)] + b, text)
@@ -364,16 +391,16 @@ def turn(names, crate, folder, said, ensures):
             if TOLD.search(new) and d["name"] not in f.cited:
                 continue
             unf = [x for x in d["lines"] if x.startswith("unfolding")]
-            clause = re.search(r"^" + re.escape(d["name"]) + r" (\S+)((?: \S+)*) =(?=\s)(.*)", body, re.M | re.S)
+            clause = re.search(r"^" + re.escape(d["name"]) + r" (\S+)((?: \S+)*?) =(?=\s)(.*)", body, re.M | re.S)
             if not clause:
-                clause = re.search(r"^" + re.escape(d["name"]) + r"() ?((?: \S+)*)=(?=\s)(.*)", body, re.M | re.S)
+                clause = re.search(r"^" + re.escape(d["name"]) + r"() ?((?: \S+)*?)=(?=\s)(.*)", body, re.M | re.S)
             if not clause:
                 said.append(f"left: {folder}: {d['name']} has another form")
                 continue
             term = clause.group(3)
             if TRIVIAL.match(term) and not unf and d["name"] not in f.cited:
                 continue
-            term, u = f.terms(term, {clause.group(1): f.at.get(new)})
+            term, u = f.terms(term, {clause.group(1): f.at.get(new)}, new)
             used |= u
             fields = f.asked.get(m.group(1)) or f.asked.get(norm(m.group(1))) or next((v for k, v in f.asked.items() if norm(k) == norm(m.group(1))), None)
             if new.startswith("returns") and len(f.ensures) > 1:
@@ -408,7 +435,7 @@ def turn(names, crate, folder, said, ensures):
         for a, (_, new) in zip(rest, f.order):
             m = re.match(r"\(λ (\S+)\.(.*)\)$", a, re.S)
             if m and not TRIVIAL.match(m.group(2)):
-                term, u = f.terms(m.group(2), {m.group(1): f.at.get(new)})
+                term, u = f.terms(m.group(2), {m.group(1): f.at.get(new)}, new)
                 used |= u
                 fields = next((v for k, v in f.asked.items() if norm(k) == norm(_)), None)
                 if fields and len(fields) > 1:
@@ -445,6 +472,8 @@ def turn(names, crate, folder, said, ensures):
         body = "\n\n".join(parts)
         if re.search(r"\bw64\b", body) and not any(re.search(r"\bw64\b", x) for x in lines):
             lines.append("use mir.Syntax.{w64}")
+        if re.search(r"\barith\b", body) and not any(re.search(r"\barith\b", x) for x in lines):
+            lines.append("use native.Mathlib.Omega.{arith}")
         if re.search(r"\bof_z\b", body) and not any(re.search(r"\bof_z\b", x) for x in lines):
             lines.append("use mir.Val.{of_z}")
         lines = [x for x in lines if not x.startswith("use ") or needed(x, body)]
