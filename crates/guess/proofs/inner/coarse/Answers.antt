@@ -2,11 +2,7 @@
 use native.Mathlib.Omega.{arith}
 use Rattle.whole.specs.Division.{shr_back}
 use Rattle.guess.proofs.Sizes.{floor_small}
-use Rattle.guess.proofs.inner.coarse.Statement.{statement}
-use Rattle.guess.proofs.inner.coarse.Tie as tie
+use Rattle.guess.proofs.inner.coarse.Goals as goal
 
-returns : tie.Need-returns
+pub returns : goal.returns
 returns c = let small = c.requires.within in rw (shr_back 256 c.ranges.units) (record { within = floor_small c.args.units 256 11718750000000 (omega arith) (omega arith) })
-
-pub coarse-spec : {M : Type 1} → statement M
-coarse-spec = tie.close (tie.spec returns)
