@@ -4,13 +4,13 @@
 
 use refusals::Refusal;
 
-#[derive(Drop)]
+#[derive(Clone, Copy)]
 pub enum Body {
     Sun,
     Moon,
 }
 
-#[derive(Drop)]
+#[derive(Clone, Copy)]
 pub enum ValueAnswer {
     Value(i64),
     Refused(Refusal),
