@@ -2,8 +2,6 @@
 use mathlib.Core.Path.{◌≡◌, sym, ap, ◌∙◌}
 use mathlib.Core.Bool.{true}
 use native.Mathlib.Omega.{arith}
-use borrow.Author.Rules.{rules}
-use borrow.Author.Tests.{not-true, not-false}
 use mir.Facts.{to_z-of_z}
 use Rattle.whole.specs.Bounded.{all_wider}
 use Rattle.refusals.specs.Verdict.{answered}
@@ -31,7 +29,7 @@ at_limits c = let a = c.args in kept a.year a.moons.now a.zhongqi.now (at_lists 
 at_days : (c : In_default) → (let a = c.args in days_of a.moons.now a.zhongqi.now ≡ answered c.days_of-found.result.days)
 at_days c =
     let a = c.args in
-    days_answered c.days_of-found.result (days_of a.moons.now a.zhongqi.now) c.days_of-found.ensures c.enum_told-1.given.1
+    days_answered c.days_of-found.result (days_of a.moons.now a.zhongqi.now) c.days_of-found.ensures c.in_default.is
 
 pub returns-then-not-lists_kept : goal.returns-then-not-lists_kept
 returns-then-not-lists_kept c =
@@ -44,11 +42,8 @@ days_of-found-requires c = (at_limits (goal.at.days_of-found-requires c).Else-no
 pub returns-in-Refused : goal.returns-in-Refused
 returns-in-Refused c =
     let a = c.args in
-    let refused = days_refused c.days_of-found.result (days_of a.moons.now a.zhongqi.now) c.days_of-found.ensures c.check-1.given.1 in
+    let refused = days_refused c.days_of-found.result (days_of a.moons.now a.zhongqi.now) c.days_of-found.ensures c.in-Refused.is in
     c.no_sui-in-Refused.ensures ∙ ap sui_answer (months_refused a.year a.moons.now a.zhongqi.now (at_lists (goal.at.returns-in-Refused c).Else-not-lists_kept) refused)
-
-pub enum_told-1 : goal.enum_told-1
-enum_told-1 c = search rules
 
 pub sui_of-requires : goal.sui_of-requires
 sui_of-requires c =

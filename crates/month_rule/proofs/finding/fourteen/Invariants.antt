@@ -1,9 +1,9 @@
 -- `month_rule::finding::fourteen` meets its contract. The loop's invariant: the first i days are copied. Assumes nothing.
-use mathlib.Core.Path.{◌≡◌, refl, ap, ◌∙◌}
-use mathlib.Core.List.{List, ◌++◌}
-use Prim.Native.Nat.{◌+◌, ◌-◌, ◌≤◌, ◌<◌}
-use lib.IntN.{ℤ, pos}
-use lib.ListN.{length, get_or, take, drop, replicate, length-drop}
+use mathlib.Core.Path.{◌≡◌}
+use mathlib.Core.List.{◌++◌}
+use Prim.Native.Nat.{◌-◌, ◌≤◌}
+use lib.IntN.{pos}
+use lib.ListN.{take, drop, replicate}
 use Rattle.month_rule.proofs.finding.fourteen.Given as goal
 
 abbrev pub invariant-loop-i : goal.invariant-loop-i

@@ -1,11 +1,10 @@
 -- `month_rule::finding::thirteen` meets its contract. The loop's invariant: the first i days are copied. Assumes nothing.
 use mathlib.Core.Path.{◌≡◌, refl, ◌∙◌}
-use mathlib.Core.List.{◌++◌, append-nil}
-use Prim.Native.Nat.{◌-◌, ◌≤◌}
+use mathlib.Core.List.{append-nil}
 use native.Mathlib.Omega.{arith}
 use borrow.Author.Rules.{rules}
 use lib.IntN.{pos}
-use lib.ListN.{get_or, take, drop, replicate}
+use lib.ListN.{get_or, take, replicate}
 use lib.Seq.{take_all}
 use mir.Syntax.{w64}
 use mir.Val.{SFits}

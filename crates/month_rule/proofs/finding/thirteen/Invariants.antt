@@ -1,9 +1,9 @@
 -- `month_rule::finding::thirteen` meets its contract. The loop's invariant: the first i days are copied. Assumes nothing.
-use mathlib.Core.Path.{◌≡◌, refl, ◌∙◌}
-use mathlib.Core.List.{◌++◌, append-nil}
+use mathlib.Core.Path.{◌≡◌}
+use mathlib.Core.List.{◌++◌}
 use Prim.Native.Nat.{◌-◌, ◌≤◌}
 use lib.IntN.{pos}
-use lib.ListN.{get_or, take, drop, replicate}
+use lib.ListN.{take, drop, replicate}
 use Rattle.month_rule.proofs.finding.thirteen.Given as goal
 
 abbrev pub invariant-loop-i : goal.invariant-loop-i

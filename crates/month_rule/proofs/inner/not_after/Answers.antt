@@ -1,13 +1,13 @@
 -- `month_rule::inner::not_after` meets its contract. The loop's invariant: what was counted, and what is left to count, is the whole count.
 -- Assumes nothing.
 use mathlib.Core.Path.{◌≡◌}
-use Prim.Native.Nat.{◌+◌, ◌-◌, ◌≤◌}
+use Prim.Native.Nat.{◌+◌}
 use native.Mathlib.Omega.{arith}
 use borrow.Author.Rules.{rules}
 use lib.IntN.{pos}
-use lib.ListN.{length, get_or, drop}
+use lib.ListN.{get_or, drop}
 use mir.Syntax.{w64}
-use mir.Val.{SFits, to_z}
+use mir.Val.{SFits}
 use mir.Facts.{to_z-of_z}
 use Rattle.months.specs.Months.{not_after}
 use Rattle.months.specs.theory.Listed.{not_after_turn, not_after_end, not_after_small}

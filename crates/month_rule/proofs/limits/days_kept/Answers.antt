@@ -1,6 +1,5 @@
 -- `month_rule::limits::days_kept` meets its contract. Assumes nothing.
 use mathlib.Core.Path.{sym, ◌∙◌}
-use borrow.Author.Tests.{not-true, not-false}
 use Rattle.months.specs.Limits.{rising, in_range, days_kept}
 use Rattle.months.specs.theory.Kept.{first_fails, first_passes}
 use Rattle.month_rule.proofs.limits.days_kept.Goals as goal

@@ -1,7 +1,7 @@
 -- `month_rule::limits::in_range` meets its contract. The loop's invariant: the days are in range if those from i on are. Assumes nothing.
-use mathlib.Core.Path.{◌≡◌, refl, sym, ◌∙◌}
-use Prim.Native.Nat.{◌+◌, ◌-◌, ◌≤◌}
-use lib.ListN.{length, get_or, drop}
+use mathlib.Core.Path.{◌≡◌}
+use Prim.Native.Nat.{◌-◌, ◌≤◌}
+use lib.ListN.{length, drop}
 use Rattle.months.specs.Limits.{in_range}
 use Rattle.month_rule.proofs.limits.in_range.Given as goal
 

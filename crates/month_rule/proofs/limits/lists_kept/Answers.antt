@@ -1,7 +1,6 @@
 -- `month_rule::limits::lists_kept` meets its contract. In the needs, `start` is the function's entry. Assumes nothing.
 use mathlib.Core.Path.{◌≡◌, sym, ◌∙◌}
 use mathlib.Core.Bool.{true}
-use borrow.Author.Tests.{not-true, not-false}
 use mir.Facts.{to_z-of_z}
 use Rattle.months.specs.Limits.{year_in_range, days_kept}
 use Rattle.months.specs.theory.Kept.{bad_year, too_many, bad_moons, by_zhongqi, not_thirteen}

@@ -1,7 +1,7 @@
 -- `month_rule::limits::rising` meets its contract. The loop's invariant: the days rise if those from i on do. Assumes nothing.
-use mathlib.Core.Path.{◌≡◌, refl, sym, ◌∙◌}
-use Prim.Native.Nat.{◌+◌, ◌-◌, ◌≤◌}
-use lib.ListN.{length, get_or, drop}
+use mathlib.Core.Path.{◌≡◌}
+use Prim.Native.Nat.{◌-◌, ◌≤◌}
+use lib.ListN.{length, drop}
 use Rattle.months.specs.Limits.{rising}
 use Rattle.month_rule.proofs.limits.rising.Given as goal
 

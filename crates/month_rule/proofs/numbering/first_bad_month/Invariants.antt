@@ -1,7 +1,7 @@
 -- `month_rule::numbering::first_bad_month` meets its contract. The loop's invariant: what is sought stands from i on. Assumes nothing.
-use mathlib.Core.Path.{◌≡◌, sym, ◌∙◌}
+use mathlib.Core.Path.{◌≡◌}
 use Prim.Native.Nat.{◌-◌, ◌≤◌}
-use Rattle.whole.specs.Found.{first_from, first_begins, first_turn_lem, first_here, first_none}
+use Rattle.whole.specs.Found.{first_from}
 use Rattle.months.specs.Months.{bad_month, first_bad_month}
 use Rattle.month_rule.proofs.numbering.first_bad_month.Given as goal
 

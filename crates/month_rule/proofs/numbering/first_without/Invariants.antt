@@ -1,8 +1,8 @@
 -- `month_rule::numbering::first_without` meets its contract. The loop's invariant: what is sought stands from i on. It stands before 13, by
 -- `thirteen_months_one_without`, and so does i. Assumes nothing.
-use mathlib.Core.Path.{◌≡◌, sym, ◌∙◌}
-use Prim.Native.Nat.{◌-◌, ◌<◌}
-use Rattle.whole.specs.Found.{first_from, first_begins, first_turn_lem, first_here, first_small}
+use mathlib.Core.Path.{◌≡◌}
+use Prim.Native.Nat.{◌-◌}
+use Rattle.whole.specs.Found.{first_from}
 use Rattle.months.specs.Months.{without, first_without}
 use Rattle.month_rule.proofs.numbering.first_without.Given as goal
 

@@ -1,11 +1,10 @@
 -- `month_rule::numbering::numbered` meets its contract. The loop's invariant: the first i months stand in the array, and none behind them.
 -- Assumes nothing.
 use mathlib.Core.Path.{◌≡◌, refl}
-use Prim.Native.Nat.{◌-◌, ◌≤◌}
 use native.Mathlib.Omega.{arith}
-use lib.ListN.{drop, replicate}
+use lib.ListN.{replicate}
 use mir.Facts.{to_z-of_z}
-use Rattle.whole.specs.Tabulated.{tabulate, tabulate_turn, drop_replicate}
+use Rattle.whole.specs.Tabulated.{tabulate_turn, drop_replicate}
 use Rattle.months.specs.Handles.{no_month}
 use Rattle.months.specs.Months.{month_at, numbered}
 use Rattle.month_rule.proofs.numbering.numbered.Goals as goal
@@ -20,7 +19,7 @@ pub loop-i-init : goal.loop-i-init
 loop-i-init c = (omega arith, refl)
 
 pub month_at-month-requires : goal.month_at-month-requires
-month_at-month-requires c κs = record { within = rw (to_z-of_z c.ranges.year) c.requires.within; place_bound = omega arith; all = c.requires.all }
+month_at-month-requires c = record { within = rw (to_z-of_z c.ranges.year) c.requires.within; place_bound = omega arith; all = c.requires.all }
 
 pub offset_bounds-months-i : goal.offset_bounds-months-i
 offset_bounds-months-i c = omega arith

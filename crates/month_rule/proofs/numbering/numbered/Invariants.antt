@@ -1,12 +1,12 @@
 -- `month_rule::numbering::numbered` meets its contract. The loop's invariant: the first i months stand in the array, and none behind them.
 -- Assumes nothing.
-use mathlib.Core.Path.{◌≡◌, refl}
+use mathlib.Core.Path.{◌≡◌}
 use mathlib.Core.List.{◌++◌}
 use Prim.Native.Nat.{◌-◌, ◌≤◌}
 use lib.ListN.{drop, replicate}
-use Rattle.whole.specs.Tabulated.{tabulate, tabulate_turn, drop_replicate}
+use Rattle.whole.specs.Tabulated.{tabulate}
 use Rattle.months.specs.Handles.{no_month}
-use Rattle.months.specs.Months.{month_at, numbered}
+use Rattle.months.specs.Months.{month_at}
 use Rattle.month_rule.proofs.numbering.numbered.Given as goal
 
 abbrev pub invariant-loop-i : goal.invariant-loop-i

@@ -14,6 +14,6 @@ use Rattle.month_rule.proofs.numbering.without.Goals as goal
 pub returns : goal.returns
 unfolding without zhongqi_of
 returns c =
-    let first : SFits w64 (get_or c.args.t1.moons c.args.place (pos 0)) = search rules in
-    let next : SFits w64 (get_or c.args.t1.moons (c.args.place + 1) (pos 0)) = search rules in
+    let first : SFits w64 (get_or c.args.days.moons c.args.place (pos 0)) = search rules in
+    let next : SFits w64 (get_or c.args.days.moons (c.args.place + 1) (pos 0)) = search rules in
     ap (λ (n : ℕ). eqb n 0) (rw (to_z-of_z first, to_z-of_z next) at c.zhongqi_in.ensures)

@@ -2,8 +2,8 @@
 -- Assumes nothing.
 use mathlib.Core.Path.{◌≡◌}
 use Prim.Native.Nat.{◌+◌, ◌-◌, ◌≤◌}
-use lib.ListN.{length, get_or, drop}
-use Rattle.months.specs.Months.{is_within, zhongqi_in}
+use lib.ListN.{drop}
+use Rattle.months.specs.Months.{zhongqi_in}
 use Rattle.month_rule.proofs.numbering.zhongqi_in.Given as goal
 
 abbrev pub invariant-loop-i : goal.invariant-loop-i
