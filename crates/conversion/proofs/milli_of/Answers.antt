@@ -1,6 +1,5 @@
 -- `conversion::milli_of` meets its contract. Assumes nothing.
 use mathlib.Core.Path.{◌≡◌, sym, ap, subst, ◌∙◌}
-use borrow.Author.Rules.{rules}
 use mir.Facts.{to_z-of_z}
 use Rattle.refusals.specs.Verdict.{answered, paper_check, accepted_is, accepted_first, refused_first}
 use Rattle.clock.specs.Clock.{milli_in, Readable}
@@ -13,18 +12,15 @@ use Rattle.conversion.proofs.milli_of.Goals.{After-judge-check}
 judged : (c : After-judge-check) → paper_check c.judge-check.result ≡ clock_judged c.args.leap.now c.args.second c.args.zone
 judged c = c.judge-check.ensures ∙ ap (clock_judged c.args.leap.now c.args.second) (to_z-of_z c.ranges.zone)
 
-pub enum_told-1 : goal.enum_told-1
-enum_told-1 c = search rules
-
 pub milli_in-requires : goal.milli_in-requires
 milli_in-requires c =
-    subst (Readable c.args.leap.now c.args.second) (sym (to_z-of_z c.ranges.zone)) (readable c.args.leap.now c.args.second c.args.zone (accepted_is (judged (goal.at.milli_in-requires c).After-judge-check) c.enum_told-1.given.1))
+    subst (Readable c.args.leap.now c.args.second) (sym (to_z-of_z c.ranges.zone)) (readable c.args.leap.now c.args.second c.args.zone (accepted_is (judged (goal.at.milli_in-requires c).After-judge-check) c.in-Accepted.is))
 
 pub returns-in-Accepted : goal.returns-in-Accepted
 unfolding milli_of
 returns-in-Accepted c =
-    ap answered (c.milli_in.ensures ∙ ap (milli_in c.args.leap.now c.args.second) (to_z-of_z c.ranges.zone)) ∙ accepted_first _ (judged (goal.at.returns-in-Accepted c).After-judge-check) c.enum_told-1.given.1
+    ap answered (c.milli_in.ensures ∙ ap (milli_in c.args.leap.now c.args.second) (to_z-of_z c.ranges.zone)) ∙ accepted_first _ (judged (goal.at.returns-in-Accepted c).After-judge-check) c.in-Accepted.is
 
 pub returns-in-Refused : goal.returns-in-Refused
 unfolding milli_of
-returns-in-Refused c = refused_first _ (judged (goal.at.returns-in-Refused c).After-judge-check) c.check-1.given.1
+returns-in-Refused c = refused_first _ (judged (goal.at.returns-in-Refused c).After-judge-check) c.in-Refused.is

@@ -13,7 +13,7 @@ moment_of-requires c =
     let i = c.args.i in
     let d : SFits w64 (day w i) = search rules in
     let o : SFits w64 (offset w i) = search rules in
-    rw (to_z-of_z d, to_z-of_z o) (day_small w c.requires.leap_value i c.requires.i_bound, offset_small w c.requires.leap_value i c.requires.i_bound)
+    rw (to_z-of_z d, to_z-of_z o) (record { within = day_small w c.requires.leap_value i c.requires.i_bound; within_2 = offset_small w c.requires.leap_value i c.requires.i_bound })
 
 pub returns : goal.returns
 unfolding holds_from

@@ -1,7 +1,6 @@
 -- `conversion::inner::judge` meets its contract. Assumes nothing.
 use mathlib.Core.Path.{◌≡◌, sym, ap, ◌∙◌}
 use mathlib.Core.Bool.{true}
-use borrow.Author.Tests.{not-true, not-false}
 use mir.Facts.{to_z-of_z}
 use Rattle.clock.specs.Leap.{leap_lawful}
 use Rattle.clock.specs.Clock.{is_zone, convertible}

@@ -1,9 +1,6 @@
 -- `conversion::inner::leap_lawful` meets its contract. The loop's invariant: each entry before i is good. Assumes nothing.
-use Prim.Native.Nat.{◌-◌, ◌≤◌}
 use mathlib.Core.Path.{◌≡◌, sym, ap, ◌∙◌}
-use mathlib.Core.Bool.{true}
 use native.Mathlib.Omega.{arith}
-use borrow.Author.Tests.{not-true, not-false}
 use lib.ListN.{length}
 use Rattle.whole.specs.Booleans.{second_fails}
 use Rattle.whole.specs.Below.{every, every_none, every_next, every_false}

@@ -1,9 +1,9 @@
 -- `conversion::inner::leap_lawful` meets its contract. The loop's invariant: each entry before i is good. Assumes nothing.
 use Prim.Native.Nat.{◌-◌, ◌≤◌}
-use mathlib.Core.Path.{◌≡◌, sym, ap, ◌∙◌}
+use mathlib.Core.Path.{◌≡◌}
 use mathlib.Core.Bool.{true}
-use Rattle.whole.specs.Below.{every, every_none, every_next, every_false}
-use Rattle.clock.specs.Leap.{entries, good_entry, whole_pairs, leap_lawful}
+use Rattle.whole.specs.Below.{every}
+use Rattle.clock.specs.Leap.{entries, good_entry}
 use Rattle.conversion.proofs.inner.leap_lawful.Given as goal
 
 abbrev pub invariant-loop-i : goal.invariant-loop-i

@@ -13,7 +13,7 @@ overflow_sub-result c = fits (search bounds) tt
 pub returns-then-read : goal.returns-then-read
 unfolding read_off
 returns-then-read c =
-    let m = c.args.read.milli-1.0 in
+    let m = c.args.read.milli.0 in
     rw c.if-read.true (λ t. record { 0 = (to_z-of_z (overflow_sub-result c) ∙ ap (λ (z : ℤ). z -ℤ pos 1000) (back m (omega arith))) t })
 
 pub returns : goal.returns

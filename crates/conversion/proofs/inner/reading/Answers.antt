@@ -20,7 +20,7 @@ at_offset c = back c.offset_at-offset.result c.offset_at-offset.type_inv ∙ (rw
 
 pub entry_used-i-requires : goal.entry_used-i-requires
 entry_used-i-requires c =
-    rw c.tai_of-t.ensures (c.requires.lawful_table, first_holds c.args.leap.now c.args.second c.requires.not_early)
+    rw c.tai_of-t.ensures (record { leap_value = c.requires.lawful_table; t_value = first_holds c.args.leap.now c.args.second c.requires.not_early })
 
 pub offset_at-offset-requires : goal.offset_at-offset-requires
 offset_at-offset-requires c =
@@ -28,11 +28,11 @@ offset_at-offset-requires c =
 
 pub local_milli-requires : goal.local_milli-requires
 local_milli-requires c =
-    rw (c.tai_of-t.ensures, at_offset (goal.at.local_milli-requires c).After-offset_at-offset, to_z-of_z c.ranges.zone) (tai_small c.args.second c.requires.in_range, (offset_used_small c.args.leap.now (tai c.args.second) c.requires.lawful_table, c.requires.zone_small))
+    rw (c.tai_of-t.ensures, at_offset (goal.at.local_milli-requires c).After-offset_at-offset, to_z-of_z c.ranges.zone) (record { within = tai_small c.args.second c.requires.in_range; within_2 = offset_used_small c.args.leap.now (tai c.args.second) c.requires.lawful_table; within_3 = c.requires.zone_small })
 
 pub inserted-requires : goal.inserted-requires
 inserted-requires c =
-    rw c.tai_of-t.ensures (c.requires.lawful_table, (tai_small c.args.second c.requires.in_range, at_entry (goal.at.inserted-requires c).After-entry_used-i))
+    rw c.tai_of-t.ensures (record { leap_value = c.requires.lawful_table; within = tai_small c.args.second c.requires.in_range; i_value = at_entry (goal.at.inserted-requires c).After-entry_used-i })
 
 pub returns : goal.returns
 unfolding reading

@@ -15,7 +15,7 @@ shown_by-requires c =
     let leap = c.args.leap.now in
     let second = c.args.second in
     let zone = c.args.zone in
-    rw (at_reading (goal.at.shown_by-requires c).After-reading) (reading_small leap second zone c.requires.lawful_table c.requires.in_range c.requires.zone_small, reading_has_date leap second zone c.requires.lawful_table c.requires.in_range c.requires.zone_small)
+    rw (at_reading (goal.at.shown_by-requires c).After-reading) (record { within = reading_small leap second zone c.requires.lawful_table c.requires.in_range c.requires.zone_small; read_value = reading_has_date leap second zone c.requires.lawful_table c.requires.in_range c.requires.zone_small })
 
 pub returns : goal.returns
 unfolding shown_in
