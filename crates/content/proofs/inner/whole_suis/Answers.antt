@@ -7,28 +7,24 @@ use borrow.Author.Tests.{eq-eqb, ne_eqb, le-leb, lt-leb}
 use lib.Dec.{eqb, leb}
 use Rattle.whole.specs.Booleans.{first_fails, second_fails}
 use Rattle.content.specs.Content.{whole_suis}
-use Rattle.content.proofs.inner.whole_suis.Statement.{statement}
-use Rattle.content.proofs.inner.whole_suis.Tie as tie
+use Rattle.content.proofs.inner.whole_suis.Goals as goal
 
-returns : tie.Need-returns
+pub returns-then-words-gt0 : goal.returns-then-words-gt0
 unfolding whole_suis
-returns c =
-    let n = c.before.args.words in
+returns-then-words-gt0 c =
+    let n = c.args.words in
     sym (first_fails (eqb (n % 2) 0) (leb 2 n && leb n 256) (ne_eqb (n % 2) 0 (λ q. omega arith)))
 
-returns-2 : tie.Need-returns-2
+pub returns-then-words-lt2 : goal.returns-then-words-lt2
 unfolding whole_suis
-returns-2 c =
-    let n = c.before.before.args.words in
+returns-then-words-lt2 c =
+    let n = c.args.words in
     sym (second_fails (eqb (n % 2) 0) (leb 2 n && leb n 256) (first_fails (leb 2 n) (leb n 256) (lt-leb 2 n (omega arith))))
 
-returns-3 : tie.Need-returns-3
+pub returns : goal.returns
 unfolding whole_suis
-returns-3 c =
-    let n = c.before.before.args.words in
+returns c =
+    let n = c.args.words in
     let even : eqb (n % 2) 0 ≡ true = eq-eqb (n % 2) 0 (omega arith) in
     let some : leb 2 n ≡ true = le-leb 2 n (omega arith) in
     rw (even, some)
-
-pub whole-suis-spec : {M : Type 1} → statement M
-whole-suis-spec = tie.close (tie.spec returns returns-2 returns-3)
