@@ -1,7 +1,5 @@
 -- `content::inner::good_sui` meets its contract. Assumes nothing.
 use mathlib.Core.Path.{◌≡◌, sym, ◌∙◌}
-use mathlib.Core.Bool.{true}
-use borrow.Author.Tests.{not-true, not-false}
 use lib.IntN.{pos}
 use mir.Facts.{to_z-of_z}
 use Rattle.whole.specs.Tests.{in_range, is_exactly}

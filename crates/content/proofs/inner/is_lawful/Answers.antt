@@ -1,7 +1,6 @@
 -- `content::inner::is_lawful` meets its contract. Assumes nothing.
 use mathlib.Core.Path.{◌≡◌, sym, ◌∙◌}
 use mathlib.Core.Bool.{true}
-use borrow.Author.Tests.{not-true, not-false}
 use lib.ListN.{length}
 use Rattle.clock.specs.Leap.{leap_lawful}
 use Rattle.content.specs.Content.{whole_suis}

@@ -1,83 +1,64 @@
 -- `content::listed::suis_listed` meets its contract. Assumes nothing.
 use mathlib.Core.Path.{◌≡◌, sym, ap, ◌∙◌}
 use mathlib.Core.Bool.{true}
-use Prim.Native.Nat.{◌+◌, ◌*◌, ◌-◌, ◌/◌, ◌^◌, ◌≤◌, ◌<◌}
+use Prim.Native.Nat.{◌+◌, ◌*◌, ◌/◌, ◌^◌, ◌≤◌, ◌<◌}
 use native.Mathlib.Omega.{arith}
 use native.Mathlib.Nat.{div-add-mod'}
 use borrow.Author.Rules.{rules}
 use borrow.Author.Tests.{not-true, not-false}
-use lib.IntN.{ℤ, pos, nat_abs, ◌+ℤ◌}
+use lib.IntN.{pos, nat_abs, ◌+ℤ◌}
 use lib.ListN.{length, get_or}
 use mir.Syntax.{w64}
-use mir.Val.{SFits, to_z}
+use mir.Val.{SFits}
 use mir.Facts.{to_z-of_z}
 use Rattle.whole.specs.Parts.{→≤}
 use Rattle.whole.specs.Laws.{≤_trans}
 use Rattle.whole.specs.Ranges.{fits, bounds, back}
-use Rattle.dates.specs.Answers.{has_date}
-use Rattle.content.specs.Content.{year_at, count_at, month_at, good_months}
+use Rattle.content.specs.Content.{year_at, count_at, good_months}
 use Rattle.content.specs.Steps.{sui_after}
-use Rattle.content.specs.theory.Walk.{Due, first_due, SuisSoFar, no_sui_yet, no_months, no_date, year_small, count_12_or_13, count_range, sui_stops, months_run_out, months_stop, sui_next, months_left_over, whole_some}
+use Rattle.content.specs.theory.Walk.{Due, first_due, no_sui_yet, no_months, no_date, year_small, count_12_or_13, count_range, sui_stops, months_run_out, months_stop, sui_next, months_left_over, whole_some}
 use Rattle.content.proofs.listed.suis_listed.Goals as goal
 use Rattle.content.proofs.listed.suis_listed.Goals.{After-count, After-good_sui, After-months_listed-judged, At-loop-i, Else-not-good_sui, In-loop-i, Start}
-
-abbrev Loop : Type 0
-Loop = At-loop-i
-
-abbrev start_of : Loop → Start
-start_of loop = loop.before.before.before.before.before.before
 
 some_sui : (start : Start) → 1 ≤ length start.args.suis.now / 2
 some_sui start = (whole_some (length start.args.suis.now) start.requires).0
 
-abbrev Turn : Type 0
-Turn = In-loop-i
+in-suis : (turn : In-loop-i) → 2 * turn.loop-i.i + 1 < length turn.args.suis.now
+in-suis turn = omega (arith, turn.loop-i-test.true, div-add-mod' (length turn.args.suis.now) 2)
 
-in-suis : (turn : Turn) → 2 * turn.loop-i.i + 1 < length (start_of turn.before).args.suis.now
-in-suis turn = omega (arith, turn.loop-i-test.taken, div-add-mod' (length (start_of turn.before).args.suis.now) 2)
+few_suis : (turn : In-loop-i) → 2 * turn.loop-i.i + 1 < 256
+few_suis turn = omega (arith, in-suis turn, (whole_some (length turn.args.suis.now) turn.requires).1)
 
-few_suis : (turn : Turn) → 2 * turn.loop-i.i + 1 < 256
-few_suis turn = let start = start_of turn.before in omega (arith, in-suis turn, (whole_some (length start.args.suis.now) start.pre).1)
+months_few : (loop : At-loop-i) → 24 * loop.loop-i.from < 2 ^ 63
+months_few loop = omega (arith, loop.loop-i.invariant.there, loop.well_formed.1)
 
-months_few : (loop : Loop) → 24 * loop.loop-i.from < 2 ^ 63
-months_few loop = omega (arith, loop.loop-i.inv.there, (start_of loop).good.1)
-
-abbrev judged-turn : After-good_sui → Turn
-judged-turn c = c.before.before.before
-
-judged : (c : After-good_sui) → (let loop = (judged-turn c).before in let suis = (start_of loop).args.suis.now in c.good_sui.result ≡ sui_after (loop.loop-i.due) (year_at suis loop.loop-i.i) (count_at suis loop.loop-i.i))
+judged : (c : After-good_sui) → (let suis = c.args.suis.now in c.good_sui.result ≡ sui_after (c.loop-i.due) (year_at suis c.loop-i.i) (count_at suis c.loop-i.i))
 judged c =
-    let loop = (judged-turn c).before in
-    let suis = (start_of loop).args.suis.now in
-    let fy : SFits w64 (year_at suis loop.loop-i.i) = search rules in
-    let fc : SFits w64 (count_at suis loop.loop-i.i) = search rules in
-    rw (to_z-of_z fy, to_z-of_z fc) at c.good_sui.ensures
+    let suis = c.args.suis.now in
+    let fy : SFits w64 (year_at suis c.loop-i.i) = search rules in
+    let fc : SFits w64 (count_at suis c.loop-i.i) = search rules in
+    rw (to_z-of_z fy, to_z-of_z fc, c.loop-i.due-is) at c.good_sui.ensures
 
-is_good : (c : Else-not-good_sui) → (let loop = (judged-turn c.before).before in let suis = (start_of loop).args.suis.now in sui_after (loop.loop-i.due) (year_at suis loop.loop-i.i) (count_at suis loop.loop-i.i) ≡ true)
+is_good : (c : Else-not-good_sui) → (let suis = c.args.suis.now in sui_after (c.loop-i.due) (year_at suis c.loop-i.i) (count_at suis c.loop-i.i) ≡ true)
 is_good c = sym (judged c.before) ∙ c.if-not-good_sui.false
 
-counted : (c : After-count) → (let loop = (judged-turn c.before.before).before in c.count.result ≡ nat_abs (count_at (start_of loop).args.suis.now loop.loop-i.i))
+counted : (c : After-count) → (c.count.result ≡ nat_abs (count_at c.args.suis.now c.loop-i.i))
 counted c =
-    let loop = (judged-turn c.before.before).before in
-    let fc : SFits w64 (count_at (start_of loop).args.suis.now loop.loop-i.i) = search rules in
+    let fc : SFits w64 (count_at c.args.suis.now c.loop-i.i) = search rules in
     ap nat_abs (rw (to_z-of_z fc) at c.count.ensures)
 
 count_small : (c : After-count) → c.count.result ≤ 13
 count_small c =
-    let loop = (judged-turn c.before.before).before in
-    let suis = (start_of loop).args.suis.now in
-    omega (arith, counted c, (count_range (loop.loop-i.due) (year_at suis loop.loop-i.i) (count_at suis loop.loop-i.i) (is_good c.before)).1)
+    let suis = c.args.suis.now in
+    omega (arith, counted c, (count_range (c.loop-i.due) (year_at suis c.loop-i.i) (count_at suis c.loop-i.i) (is_good c.before)).1)
 
-abbrev months-turn : After-months_listed-judged → Turn
-months-turn c = judged-turn c.before.before.before.before
-
-judged_months : (c : After-months_listed-judged) → (let loop = (months-turn c).before in let a = (start_of loop).args in let size = count_at a.suis.now loop.loop-i.i in (c.months_listed-judged.result.good ≡ good_months a.months.now (year_at a.suis.now loop.loop-i.i) size loop.loop-i.from) × (c.months_listed-judged.result.good ≡ true → Due a.months.now (loop.loop-i.from + nat_abs size) c.months_listed-judged.result.due))
+judged_months : (c : After-months_listed-judged) → (let a = c.args in let size = count_at a.suis.now c.loop-i.i in (c.months_listed-judged.result.good ≡ good_months a.months.now (year_at a.suis.now c.loop-i.i) size c.loop-i.from) × (c.months_listed-judged.result.good ≡ true → Due a.months.now (c.loop-i.from + nat_abs size) c.months_listed-judged.result.due))
 judged_months c =
-    let loop = (months-turn c).before in
-    let suis = (start_of loop).args.suis.now in
-    let fy : SFits w64 (year_at suis loop.loop-i.i) = search rules in
-    let fc : SFits w64 (count_at suis loop.loop-i.i) = search rules in
-    rw (to_z-of_z fy, to_z-of_z fc) at c.months_listed-judged.ensures
+    let suis = c.args.suis.now in
+    let fy : SFits w64 (year_at suis c.loop-i.i) = search rules in
+    let fc : SFits w64 (count_at suis c.loop-i.i) = search rules in
+    let e = rw (to_z-of_z fy, to_z-of_z fc) at c.months_listed-judged.ensures in
+    (e.good_value, e.due_2)
 
 pub returns-then-months-lt3 : goal.returns-then-months-lt3
 returns-then-months-lt3 c = no_months c.args.suis.now c.args.months.now (some_sui (goal.at.returns-then-months-lt3 c).Start) c.if-months-lt3.true
@@ -101,105 +82,93 @@ loop-i-init c =
     rw (to_z-of_z fy, to_z-of_z fd) (no_sui_yet c.args.suis.now months (get_or months 1 (pos 0)) (first_due months (sym (rw (to_z-of_z fd) at c.has_date.ensures) ∙ c.if-not-has_date.false)))
 
 pub overflow_mul-year : goal.overflow_mul-year
-overflow_mul-year c = record { fits = omega (arith, few_suis (goal.at.overflow_mul-year c).Turn) }
+overflow_mul-year c = record { fits = omega (arith, few_suis (goal.at.overflow_mul-year c).In-loop-i) }
 
 pub offset_bounds-suis-i : goal.offset_bounds-suis-i
-offset_bounds-suis-i c = record { fits = omega (arith, few_suis (goal.at.offset_bounds-suis-i c).Turn) }
+offset_bounds-suis-i c = record { fits = omega (arith, few_suis (goal.at.offset_bounds-suis-i c).In-loop-i) }
 
 pub bounds-suis-i : goal.bounds-suis-i
-bounds-suis-i c = omega (arith, in-suis (goal.at.bounds-suis-i c).Turn)
+bounds-suis-i c = omega (arith, in-suis (goal.at.bounds-suis-i c).In-loop-i)
 
 pub overflow_mul-size : goal.overflow_mul-size
-overflow_mul-size c = record { fits = omega (arith, few_suis (goal.at.overflow_mul-size c).Turn) }
+overflow_mul-size c = record { fits = omega (arith, few_suis (goal.at.overflow_mul-size c).In-loop-i) }
 
 pub overflow_add-size : goal.overflow_add-size
-overflow_add-size c = record { fits = omega (arith, few_suis (goal.at.overflow_add-size c).Turn) }
+overflow_add-size c = record { fits = omega (arith, few_suis (goal.at.overflow_add-size c).In-loop-i) }
 
 pub offset_bounds-suis-i-in-loop-i : goal.offset_bounds-suis-i-in-loop-i
-offset_bounds-suis-i-in-loop-i c = record { fits = omega (arith, few_suis (goal.at.offset_bounds-suis-i-in-loop-i c).Turn) }
+offset_bounds-suis-i-in-loop-i c = record { fits = omega (arith, few_suis (goal.at.offset_bounds-suis-i-in-loop-i c).In-loop-i) }
 
 pub bounds-suis-i-in-loop-i : goal.bounds-suis-i-in-loop-i
-bounds-suis-i-in-loop-i c = in-suis (goal.at.bounds-suis-i-in-loop-i c).Turn
+bounds-suis-i-in-loop-i c = in-suis (goal.at.bounds-suis-i-in-loop-i c).In-loop-i
 
 pub returns-then-not-good_sui : goal.returns-then-not-good_sui
 returns-then-not-good_sui c =
-    let turn = judged-turn c.before in
-    let loop = turn.before in
-    let a = (start_of loop).args in
-    sui_stops a.suis.now a.months.now loop.loop-i.i loop.loop-i.from _ _ loop.loop-i.inv turn.loop-i-test.taken (sym (judged (goal.at.returns-then-not-good_sui c).After-good_sui) ∙ c.if-not-good_sui.true)
+    let a = c.args in
+    sui_stops a.suis.now a.months.now c.loop-i.i c.loop-i.from _ _ (rw c.loop-i.due-is at c.loop-i.invariant) c.loop-i-test.true (sym (judged (goal.at.returns-then-not-good_sui c).After-good_sui) ∙ c.if-not-good_sui.true)
 
 pub count-requires : goal.count-requires
 count-requires c =
-    let loop = (judged-turn c.before).before in
-    let suis = (start_of loop).args.suis.now in
-    let fc : SFits w64 (count_at suis loop.loop-i.i) = search rules in
-    rw (to_z-of_z fc) (≤_trans (→≤ (omega arith)) (count_12_or_13 (loop.loop-i.due) (year_at suis loop.loop-i.i) (count_at suis loop.loop-i.i) (is_good (goal.at.count-requires c).Else-not-good_sui)).0)
+    let suis = c.args.suis.now in
+    let fc : SFits w64 (count_at suis c.loop-i.i) = search rules in
+    rw (to_z-of_z fc) (≤_trans (→≤ (omega arith)) (count_12_or_13 (c.loop-i.due) (year_at suis c.loop-i.i) (count_at suis c.loop-i.i) (is_good (goal.at.count-requires c).Else-not-good_sui)).0)
 
 pub overflow_add-behind : goal.overflow_add-behind
-overflow_add-behind c = record { fits = omega (arith, count_small (goal.at.overflow_add-behind c).After-count, months_few (judged-turn c.before.before).before) }
+overflow_add-behind c = record { fits = omega (arith, count_small (goal.at.overflow_add-behind c).After-count, months_few (goal.at.overflow_add-behind c).At-loop-i) }
 
 pub overflow_mul-behind : goal.overflow_mul-behind
-overflow_mul-behind c = record { fits = omega (arith, count_small (goal.at.overflow_mul-behind c).After-count, months_few (judged-turn c.before.before).before) }
+overflow_mul-behind c = record { fits = omega (arith, count_small (goal.at.overflow_mul-behind c).After-count, months_few (goal.at.overflow_mul-behind c).At-loop-i) }
 
 pub returns-then-months-behind : goal.returns-then-months-behind
 returns-then-months-behind c =
-    let turn = judged-turn c.before.before.before in
-    let loop = turn.before in
-    let a = (start_of loop).args in
-    months_run_out a.suis.now a.months.now loop.loop-i.i loop.loop-i.from _ _ loop.loop-i.inv turn.loop-i-test.taken (omega (arith, counted (goal.at.returns-then-months-behind c).After-count, c.if-months-behind.true))
+    let a = c.args in
+    months_run_out a.suis.now a.months.now c.loop-i.i c.loop-i.from _ _ c.loop-i.invariant c.loop-i-test.true (omega (arith, counted (goal.at.returns-then-months-behind c).After-count, c.if-months-behind.true))
 
 pub months_listed-judged-requires : goal.months_listed-judged-requires
 months_listed-judged-requires c =
-    let loop = (judged-turn c.before.before.before).before in
-    let suis = (start_of loop).args.suis.now in
-    let i = loop.loop-i.i in
+    let suis = c.args.suis.now in
+    let i = c.loop-i.i in
     let fy : SFits w64 (year_at suis i) = search rules in
     let fc : SFits w64 (count_at suis i) = search rules in
-    let due = loop.loop-i.due in
-    rw (to_z-of_z fy, to_z-of_z fc) (record { within = year_small due (year_at suis i) (count_at suis i) (is_good (goal.at.months_listed-judged-requires c).Else-not-good_sui); pos_bound = count_12_or_13 due (year_at suis i) (count_at suis i) (is_good (goal.at.months_listed-judged-requires c).Else-not-good_sui); size_in_bounds = omega (arith, counted (goal.at.months_listed-judged-requires c).After-count, c.if-months-behind.false); due = loop.loop-i.inv.day-due })
+    let due = c.loop-i.due in
+    rw (to_z-of_z fy, to_z-of_z fc) (record { within = year_small due (year_at suis i) (count_at suis i) (is_good (goal.at.months_listed-judged-requires c).Else-not-good_sui); pos_bound = count_12_or_13 due (year_at suis i) (count_at suis i) (is_good (goal.at.months_listed-judged-requires c).Else-not-good_sui); size_in_bounds = omega (arith, counted (goal.at.months_listed-judged-requires c).After-count, c.if-months-behind.false); due = c.loop-i.invariant.day_due_lem })
 
 pub returns-then-not-judged : goal.returns-then-not-judged
 returns-then-not-judged c =
-    let turn = months-turn c.before.before in
-    let loop = turn.before in
-    let a = (start_of loop).args in
-    months_stop a.suis.now a.months.now loop.loop-i.i loop.loop-i.from _ _ loop.loop-i.inv turn.loop-i-test.taken (sym (judged_months (goal.at.returns-then-not-judged c).After-months_listed-judged).0 ∙ c.if-not-judged.true)
+    let a = c.args in
+    months_stop a.suis.now a.months.now c.loop-i.i c.loop-i.from _ _ c.loop-i.invariant c.loop-i-test.true (sym (judged_months (goal.at.returns-then-not-judged c).After-months_listed-judged).0 ∙ not-true _ c.if-not-judged.true)
 
 pub add-due-requires : goal.add-due-requires
 add-due-requires c =
-    let loop = (months-turn c.before.before).before in
-    let suis = (start_of loop).args.suis.now in
-    let i = loop.loop-i.i in
+    let suis = c.args.suis.now in
+    let i = c.loop-i.i in
     let fy : SFits w64 (year_at suis i) = search rules in
-    let small = year_small (loop.loop-i.due) (year_at suis i) (count_at suis i) (is_good (goal.at.add-due-requires c).Else-not-good_sui) in
+    let small = year_small (c.loop-i.due) (year_at suis i) (count_at suis i) (is_good (goal.at.add-due-requires c).Else-not-good_sui) in
     rw (to_z-of_z fy) (fits (search bounds) tt)
 
 pub overflow_add-i : goal.overflow_add-i
 overflow_add-i c =
-    let turn = months-turn c.before.before.before.before in
-    record { fits = omega (arith, few_suis turn) }
+    record { fits = omega (arith, few_suis (goal.at.overflow_add-i c).In-loop-i) }
 
 pub loop-i-smaller : goal.loop-i-smaller
 loop-i-smaller c = omega arith
 
 pub loop-i-preserved : goal.loop-i-preserved
 loop-i-preserved c =
-    let turn = months-turn c.before.before.before.before in
-    let loop = turn.before in
-    let a = (start_of loop).args in
-    let i = loop.loop-i.i in
+    let a = c.args in
+    let i = c.loop-i.i in
     let fy : SFits w64 (year_at a.suis.now i) = search rules in
     let r = c.months_listed-judged.result in
     let year : c.add-due.result ≡ year_at a.suis.now i +ℤ pos 1 = rw (to_z-of_z fy) at c.add-due.ensures in
-    let all_good : r.good ≡ true = c.if-not-judged.false in
+    let all_good : r.good ≡ true = not-false _ c.if-not-judged.false in
     rw (back c.add-due.result c.add-due.type_inv, year, back r.due (omega arith))
-    (sui_next a.suis.now a.months.now i loop.loop-i.from _ _ loop.loop-i.inv turn.loop-i-test.taken c.count.result r.due (counted (goal.at.loop-i-preserved c).After-count) (is_good (goal.at.loop-i-preserved c).Else-not-good_sui) c.if-months-behind.false (sym (judged_months (goal.at.loop-i-preserved c).After-months_listed-judged).0 ∙ all_good) ((judged_months (goal.at.loop-i-preserved c).After-months_listed-judged).1 all_good))
+    (sui_next a.suis.now a.months.now i c.loop-i.from _ _ (rw c.loop-i.due-is at c.loop-i.invariant) c.loop-i-test.true c.count.result r.due (counted (goal.at.loop-i-preserved c).After-count) (is_good (goal.at.loop-i-preserved c).Else-not-good_sui) c.if-months-behind.false (sym (judged_months (goal.at.loop-i-preserved c).After-months_listed-judged).0 ∙ all_good) ((judged_months (goal.at.loop-i-preserved c).After-months_listed-judged).1 all_good))
 
 pub overflow_mul-result : goal.overflow_mul-result
-overflow_mul-result c = record { fits = omega (arith, months_few (goal.at.overflow_mul-result c).Loop) }
+overflow_mul-result c = record { fits = omega (arith, months_few (goal.at.overflow_mul-result c).At-loop-i) }
 
 pub returns : goal.returns
 returns c =
-    let a = (start_of c.before).args in
+    let a = c.args in
     let all : c.loop-i.i ≡ length a.suis.now / 2 = omega (arith, c.loop-i-test.false, c.loop-i.invariant.few) in
     months_left_over a.suis.now a.months.now c.loop-i.from _ _ (rw all at c.loop-i.invariant)

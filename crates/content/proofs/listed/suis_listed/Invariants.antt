@@ -1,6 +1,6 @@
 -- `content::listed::suis_listed` meets its contract. Assumes nothing.
-use Prim.Native.Nat.{◌+◌, ◌*◌, ◌-◌, ◌/◌, ◌^◌, ◌≤◌, ◌<◌}
-use Rattle.content.specs.theory.Walk.{Due, first_due, SuisSoFar, no_sui_yet, no_months, no_date, year_small, count_12_or_13, count_range, sui_stops, months_run_out, months_stop, sui_next, months_left_over, whole_some}
+use Prim.Native.Nat.{◌-◌}
+use Rattle.content.specs.theory.Walk.{SuisSoFar}
 use Rattle.content.proofs.listed.suis_listed.Given as goal
 
 abbrev pub invariant-loop-i : goal.invariant-loop-i

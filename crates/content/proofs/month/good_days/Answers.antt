@@ -3,7 +3,6 @@ use mathlib.Core.Path.{◌≡◌, sym, ◌∙◌}
 use mathlib.Core.Bool.{true}
 use mathlib.Core.List.{[], ◌∷◌}
 use native.Mathlib.Omega.{arith}
-use borrow.Author.Tests.{not-true, not-false}
 use lib.IntN.{pos, ◌+ℤ◌}
 use mir.Facts.{to_z-of_z}
 use Rattle.whole.specs.Ranges.{Within, fits, bounds, back}

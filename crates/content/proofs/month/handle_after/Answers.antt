@@ -1,6 +1,5 @@
 -- `content::month::handle_after` meets its contract. Assumes nothing.
 use mathlib.Core.Path.{◌≡◌, sym, ◌∙◌}
-use mathlib.Core.Bool.{true}
 use lib.IntN.{pos, ◌+ℤ◌, ◌*ℤ◌}
 use mir.Facts.{to_z-of_z}
 use Rattle.whole.specs.Ranges.{fits, bounds, bound_back, back}
@@ -22,7 +21,7 @@ is_twelfth c =
     rw (to_z-of_z (overflow_add-twelfth c.before), to_z-of_z (overflow_mul-twelfth c.before), to_z-of_z fy, to_z-of_z fh) at c.in_range.ensures
 
 pub subtract-requires : goal.subtract-requires
-subtract-requires c κs = let fh = c.ranges.h in rw (to_z-of_z fh) (fits (search bounds) tt)
+subtract-requires c = let fh = c.ranges.h in rw (to_z-of_z fh) (fits (search bounds) tt)
 
 pub returns-then-in_range : goal.returns-then-in_range
 returns-then-in_range c =
@@ -30,7 +29,7 @@ returns-then-in_range c =
     back c.subtract.result c.subtract.type_inv ∙ (rw (to_z-of_z fh) at c.subtract.ensures) ∙ after_twelfth c.args.year c.args.h (sym (is_twelfth (goal.at.returns-then-in_range c).After-in_range) ∙ c.if-in_range.true)
 
 pub add-requires : goal.add-requires
-add-requires c κs = let fh = c.ranges.h in rw (to_z-of_z fh) (fits (search bounds) tt)
+add-requires c = let fh = c.ranges.h in rw (to_z-of_z fh) (fits (search bounds) tt)
 
 pub returns : goal.returns
 returns c =

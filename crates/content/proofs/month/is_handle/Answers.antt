@@ -1,9 +1,8 @@
 -- `content::month::is_handle` meets its contract. Assumes nothing.
 use native.Mathlib.Omega.{arith}
 use mathlib.Core.Path.{◌≡◌, ap}
-use Prim.Native.Nat.{◌+◌, ◌*◌, ◌-◌, ◌<◌}
 use mir.Facts.{to_z-of_z}
-use Rattle.whole.specs.Ranges.{fits, back}
+use Rattle.whole.specs.Ranges.{back}
 use Rattle.months.specs.declared.Month.{Month}
 use Rattle.months.specs.Handles.{handle_at, month_of}
 use Rattle.content.proofs.month.is_handle.Goals as goal
