@@ -20,7 +20,7 @@ pub read_all-requires : goal.read_all-requires
 read_all-requires c =
     let a = c.args in
     let k = checked _ _ (ap paper_file (sym c.in-File.is) ∙ c.check_file-checked.ensures) in
-    (omega (arith, k.ends), room_is _ _ _ _ (sym c.too_short.ensures ∙ c.if-too_short.false))
+    (let room = room_is _ _ _ _ (sym c.too_short.ensures ∙ c.if-too_short.false) in record { months_in_bounds = omega (arith, k.ends); entries_in_bounds = room.0; suis_in_bounds = room.1.0; months_in_bounds_2 = room.1.1 })
 
 pub returns-in-Refused : goal.returns-in-Refused
 returns-in-Refused c =

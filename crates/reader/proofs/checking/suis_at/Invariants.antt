@@ -6,12 +6,6 @@ use Rattle.content.specs.theory.Walk.{Due, first_due, SuisSoFar, no_sui_yet, no_
 use Rattle.almanac.specs.Layout.{content_at}
 use Rattle.reader.proofs.checking.suis_at.Given as goal
 
-abbrev pub suis : Start → List ℤ
-suis start = (content_at start.args.file.now start.args.n).suis
-
-abbrev pub months : Start → List ℤ
-months start = (content_at start.args.file.now start.args.n).months
-
 abbrev pub invariant-loop-i : goal.invariant-loop-i
 invariant-loop-i l = SuisSoFar (content_at l.file l.n).suis (content_at l.file l.n).months l.i l.from (l.due) (l.day)
 

@@ -20,8 +20,8 @@ pub loop-i-preserved : goal.loop-i-preserved
 unfolding numbers_in widths
 loop-i-preserved c =
     let i = c.loop-i.i in
-    let first = c.signed4-at in
-    let second = c.unsigned4-at in
+    let first = c.signed4_at in
+    let second = c.unsigned4_at in
     let room : 2 * i + 2 ≤ length c.loop-i.out = omega (arith, c.loop-i.invariant.1.0, c.loop-i-test.true, c.requires.n_in_bounds_2) in (
       omega (arith, c.loop-i-test.true),
       (
