@@ -1,8 +1,6 @@
 -- `reader::checking::suis_at` meets its contract. Assumes nothing.
-use mathlib.Core.List.{List}
-use Prim.Native.Nat.{ℕ, ◌+◌, ◌*◌, ◌-◌, ◌/◌, ◌^◌, ◌≤◌, ◌<◌}
-use lib.IntN.{ℤ, pos, nat_abs, ◌+ℤ◌}
-use Rattle.content.specs.theory.Walk.{Due, first_due, SuisSoFar, no_sui_yet, no_months, no_date, year_small, count_12_or_13, count_range, sui_stops, months_run_out, months_stop, sui_next, months_left_over}
+use Prim.Native.Nat.{◌-◌}
+use Rattle.content.specs.theory.Walk.{SuisSoFar}
 use Rattle.almanac.specs.Layout.{content_at}
 use Rattle.reader.proofs.checking.suis_at.Given as goal
 

@@ -1,8 +1,8 @@
 -- `reader::reading::read_suis` meets its contract. Assumes nothing.
 use mathlib.Core.Path.{◌≡◌, refl, ◌∙◌}
-use Prim.Native.Nat.{◌+◌, ◌*◌, ◌-◌, ◌≤◌}
+use Prim.Native.Nat.{◌+◌, ◌*◌, ◌≤◌}
 use native.Mathlib.Omega.{arith}
-use lib.ListN.{length, drop, length-set}
+use lib.ListN.{length, length-set}
 use Rattle.whole.specs.Ranges.{back}
 use Rattle.almanac.specs.Fields.{times, widths, numbers_in}
 use Rattle.almanac.specs.Layout.{sui_fields}
