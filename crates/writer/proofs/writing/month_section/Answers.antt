@@ -21,4 +21,4 @@ returns c =
     let number = c.signed in
     let counted = rw (back number.result number.type_inv, number.ensures) at c.put4.ensures in
     let size : length (bytes_for (times a.n month_fields) a.months.now) ≡ 9 * a.n = section_length a.n month_fields a.months.now c.requires.fit in
-    section_placed a.out-1.now a.at a.n _ (omega (arith, size, c.requires.n_in_bounds)) counted c.put_months.ensures
+    section_placed a.out.now a.at a.n _ (omega (arith, size, c.requires.n_in_bounds)) counted c.put_months.ensures

@@ -1,9 +1,9 @@
 -- `writer::writing::put_entries` meets its contract. Assumes nothing.
-use mathlib.Core.Path.{◌≡◌, refl, ◌∙◌}
-use Prim.Native.Nat.{◌+◌, ◌*◌, ◌-◌, ◌≤◌}
-use lib.ListN.{length, take, get_or}
+use mathlib.Core.Path.{◌≡◌}
+use Prim.Native.Nat.{◌*◌, ◌-◌, ◌≤◌}
+use lib.ListN.{length, take}
 use Rattle.whole.specs.Lists.{placed}
-use Rattle.almanac.specs.Fields.{unsigned, signed, times, widths, bytes_for}
+use Rattle.almanac.specs.Fields.{times, bytes_for}
 use Rattle.almanac.specs.Layout.{entry_fields}
 use Rattle.writer.proofs.writing.put_entries.Given as goal
 

@@ -20,4 +20,4 @@ returns c =
     let a = c.args in
     let first = rw (to_z-of_z c.ranges.day) at c.put4.ensures in
     let second = rw (to_z-of_z c.ranges.offset) at c.put4-2.ensures in
-    second ∙ ap (λ (l : List ℕ). placed (a.at + 4) (written unsigned a.offset) l) first ∙ two_placed a.out-1.now a.at signed unsigned a.day a.offset c.requires.at_in_bounds
+    second ∙ ap (λ (l : List ℕ). placed (a.at + 4) (written unsigned a.offset) l) first ∙ two_placed a.out.now a.at signed unsigned a.day a.offset c.requires.at_in_bounds

@@ -26,4 +26,4 @@ returns c =
     let third = rw (to_z-of_z c.ranges.size) at c.put_byte.ensures in
     third
     ∙ ap (λ (l : List ℕ). placed (a.at + 8) (written one_byte a.size) l) (second ∙ ap (λ (l : List ℕ). placed (a.at + 4) (written signed a.first) l) first)
-    ∙ three_placed a.out-1.now a.at unsigned signed one_byte a.handle a.first a.size c.requires.at_in_bounds
+    ∙ three_placed a.out.now a.at unsigned signed one_byte a.handle a.first a.size c.requires.at_in_bounds

@@ -1,14 +1,14 @@
 -- `writer::writing::put_months` meets its contract. Assumes nothing.
 use mathlib.Core.Path.{◌≡◌, refl, ◌∙◌}
-use Prim.Native.Nat.{◌+◌, ◌*◌, ◌-◌, ◌≤◌, ◌<◌}
+use Prim.Native.Nat.{◌+◌, ◌*◌, ◌<◌}
 use native.Mathlib.Omega.{arith}
 use borrow.Author.Rules.{rules}
 use lib.IntN.{pos}
-use lib.ListN.{length, take, get_or}
+use lib.ListN.{length, get_or}
 use mir.Facts.{to_z-of_z}
 use mir.Syntax.{w64}
 use mir.Val.{SFits}
-use Rattle.almanac.specs.Fields.{one_byte, unsigned, signed, times, widths, bytes_for}
+use Rattle.almanac.specs.Fields.{one_byte, unsigned, signed, times, widths}
 use Rattle.almanac.specs.Layout.{month_fields}
 use Rattle.almanac.specs.theory.FieldLaws.{fit_length, length_times}
 use Rattle.almanac.specs.theory.Sections.{write_turn, write_none, write_all, three_of, three_fit}
@@ -53,7 +53,7 @@ put_month-requires c =
     let f1 : SFits w64 (get_or c.args.months.now (3 * i + 1) (pos 0)) = search rules in
     let f2 : SFits w64 (get_or c.args.months.now (3 * i + 2) (pos 0)) = search rules in
     let fit = three_fit unsigned signed one_byte c.args.n c.args.months.now c.requires.fit i c.loop-i-test.true in
-    rw (to_z-of_z f0, to_z-of_z f1, to_z-of_z f2) (omega (arith, c.loop-i.invariant.1.0, c.loop-i-test.true, c.requires.n_in_bounds), fit)
+    rw (to_z-of_z f0, to_z-of_z f1, to_z-of_z f2) (record { at_in_bounds = omega (arith, c.loop-i.invariant.1.0, c.loop-i-test.true, c.requires.n_in_bounds); fits_field = fit.0; fits_field_2 = fit.1.0; fits_field_3 = fit.1.1 })
 
 pub loop-i-preserved : goal.loop-i-preserved
 unfolding widths

@@ -20,4 +20,4 @@ returns c =
     let a = c.args in
     let first = rw (to_z-of_z c.ranges.year) at c.put4.ensures in
     let second = rw (to_z-of_z c.ranges.months) at c.put_byte.ensures in
-    second ∙ ap (λ (l : List ℕ). placed (a.at + 4) (written one_byte a.months) l) first ∙ two_placed a.out-1.now a.at signed one_byte a.year a.months c.requires.at_in_bounds
+    second ∙ ap (λ (l : List ℕ). placed (a.at + 4) (written one_byte a.months) l) first ∙ two_placed a.out.now a.at signed one_byte a.year a.months c.requires.at_in_bounds

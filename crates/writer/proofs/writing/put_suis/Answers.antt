@@ -1,14 +1,14 @@
 -- `writer::writing::put_suis` meets its contract. Assumes nothing.
 use mathlib.Core.Path.{◌≡◌, refl, ◌∙◌}
-use Prim.Native.Nat.{◌+◌, ◌*◌, ◌-◌, ◌≤◌, ◌<◌}
+use Prim.Native.Nat.{◌+◌, ◌*◌, ◌<◌}
 use native.Mathlib.Omega.{arith}
 use borrow.Author.Rules.{rules}
 use lib.IntN.{pos}
-use lib.ListN.{length, take, get_or}
+use lib.ListN.{length, get_or}
 use mir.Facts.{to_z-of_z}
 use mir.Syntax.{w64}
 use mir.Val.{SFits}
-use Rattle.almanac.specs.Fields.{one_byte, signed, times, widths, bytes_for}
+use Rattle.almanac.specs.Fields.{one_byte, signed, times, widths}
 use Rattle.almanac.specs.Layout.{sui_fields}
 use Rattle.almanac.specs.theory.FieldLaws.{fit_length, length_times}
 use Rattle.almanac.specs.theory.Sections.{write_turn, write_none, write_all, two_of, two_fit}
@@ -44,7 +44,7 @@ put_sui-requires c =
     let f0 : SFits w64 (get_or c.args.suis.now (2 * i) (pos 0)) = search rules in
     let f1 : SFits w64 (get_or c.args.suis.now (2 * i + 1) (pos 0)) = search rules in
     let fit = two_fit signed one_byte c.args.n c.args.suis.now c.requires.fit i c.loop-i-test.true in
-    rw (to_z-of_z f0, to_z-of_z f1) (omega (arith, c.loop-i.invariant.1.0, c.loop-i-test.true, c.requires.n_in_bounds), fit)
+    rw (to_z-of_z f0, to_z-of_z f1) (record { at_in_bounds = omega (arith, c.loop-i.invariant.1.0, c.loop-i-test.true, c.requires.n_in_bounds); fits_field = fit.0; fits_field_2 = fit.1 })
 
 pub loop-i-preserved : goal.loop-i-preserved
 unfolding widths

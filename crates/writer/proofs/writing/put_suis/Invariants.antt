@@ -1,9 +1,9 @@
 -- `writer::writing::put_suis` meets its contract. Assumes nothing.
-use mathlib.Core.Path.{◌≡◌, refl, ◌∙◌}
-use Prim.Native.Nat.{◌+◌, ◌*◌, ◌-◌, ◌≤◌, ◌<◌}
-use lib.ListN.{length, take, get_or}
+use mathlib.Core.Path.{◌≡◌}
+use Prim.Native.Nat.{◌*◌, ◌-◌, ◌≤◌}
+use lib.ListN.{length, take}
 use Rattle.whole.specs.Lists.{placed}
-use Rattle.almanac.specs.Fields.{one_byte, signed, times, widths, bytes_for}
+use Rattle.almanac.specs.Fields.{times, bytes_for}
 use Rattle.almanac.specs.Layout.{sui_fields}
 use Rattle.writer.proofs.writing.put_suis.Given as goal
 

@@ -21,4 +21,4 @@ returns c =
     let number = c.signed in
     let counted = rw (back number.result number.type_inv, number.ensures) at c.put4.ensures in
     let size : length (bytes_for (times a.n sui_fields) a.suis.now) ≡ 5 * a.n = section_length a.n sui_fields a.suis.now c.requires.fit in
-    section_placed a.out-1.now a.at a.n _ (omega (arith, size, c.requires.n_in_bounds)) counted c.put_suis.ensures
+    section_placed a.out.now a.at a.n _ (omega (arith, size, c.requires.n_in_bounds)) counted c.put_suis.ensures
