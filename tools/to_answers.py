@@ -183,10 +183,10 @@ class Function:
         text = TOKEN.sub(step, text)
         for (s, a), b in self.bits.items():
             path = r"(?:[^\s(){}.;,]+\.)+" + re.escape(s) + r"\." + re.escape(a) + r"(?![\w'-])"
-            text = re.sub(r"\bto_z w\d+ (" + path + ")", r"\1⟪", text)
-            text = re.sub("(" + path + ")(?!⟪)", lambda m: m.group(1)[: -len(a)] + b, text).replace("⟪", "")
+            text = re.sub(path, lambda m: m.group(0)[: -len(a)] + b, text)
+        text = re.sub(r"\bto_z-of_z \((record \{|fit_hyp )(?!\{)", r"to_z-of_z {w = w64} (\1", text)
         if self.pre:
-            text = re.sub(r"\.requires((?:\.[01](?![\w-]))+)", lambda m: ".requires" + chain(m.group(1), self.pre), text)
+            text = re.sub(r"\.(?:requires|pre)((?:\.[01](?![\w-]))+)", lambda m: ".requires" + chain(m.group(1), self.pre), text)
         for s, fields in self.clauses.items():
             text = re.sub(r"\." + re.escape(s) + r"\.ensures((?:\.[01](?![\w-]))+)", lambda m: f".{s}.ensures" + chain(m.group(1), fields), text)
         return text, used
@@ -238,7 +238,7 @@ def turn(names, crate, folder, said, ensures):
         head.append(line)
     if decls and decls[0]["comment"][: len(head)] == head:
         decls[0]["comment"] = decls[0]["comment"][len(head) :]
-    invariants, answers, used = [], [], set()
+    invariants, answers, used, helpers = [], [], set(), []
     spec_args = None
     def goal_of(d):
         m = re.match(r"tie\.Need-(\S+)", d["sig"])
@@ -327,7 +327,8 @@ def turn(names, crate, folder, said, ensures):
             continue
         body, u = f.terms(body)
         used |= u
-        answers.append("\n".join(comment + [body]))
+        helpers.append((d["name"], "\n".join(comment + [body]), u, d["mods"]))
+        answers.append(helpers[-1])
     if spec_args:
         rest = [a for a in spec_args if not re.match(r"(invariant|decreases)", a) and a != "called"]
         if len(rest) != len(f.order):
@@ -342,6 +343,19 @@ def turn(names, crate, folder, said, ensures):
                     term = named(term, fields) or term
                 term = re.sub(r"^ λ κs\. ", " ", term) if not re.search(r"κs", term[6:]) else term
                 answers.append(f"pub {new} : goal.{new}\n{new} {m.group(1)} ={term}")
+    # a definition that an invariant names stands beside the invariants
+    shared, grown = set(), True
+    while grown:
+        grown = False
+        text_now = "\n".join(invariants) + "\n".join(h[1] for h in helpers if h[0] in shared)
+        for h in helpers:
+            if h[0] not in shared and not h[2] and h[0] in set(TOKEN.findall(text_now)):
+                shared.add(h[0])
+                grown = True
+    public = lambda h: h[1] if "pub" in h[3] else re.sub(r"^((?:abbrev |unfoldable )*)(" + re.escape(h[0]) + " :)", lambda m: (m.group(1) or "abbrev ") + "pub " + m.group(2) if "abbrev" in m.group(1) or not m.group(1) else m.group(1) + "pub " + m.group(2), h[1], count=1, flags=re.M)
+    invariants = [public(h) for h in helpers if h[0] in shared] + invariants
+    answers = [a if isinstance(a, str) else a[1] for a in answers if isinstance(a, str) or a[0] not in shared]
+    brought = sorted(n for n in shared if n in set(TOKEN.findall("\n".join(answers))))
     for kind, parts in (("Invariants", invariants), ("Answers", answers)):
         if not parts:
             continue
@@ -352,9 +366,15 @@ def turn(names, crate, folder, said, ensures):
                 continue
             lines.append(u)
         lines.append(f"use {own}.{'Given' if kind == 'Invariants' else 'Goals'} as goal")
+        if kind == "Answers" and brought:
+            lines.append(f"use {own}.Invariants.{{{', '.join(brought)}}}")
         if kind == "Answers" and used:
             lines.append(f"use {own}.Goals.{{{', '.join(sorted(used))}}}")
         body = "\n\n".join(parts)
+        if re.search(r"\bw64\b", body) and not any(re.search(r"\bw64\b", x) for x in lines):
+            lines.append("use mir.Syntax.{w64}")
+        if re.search(r"\bof_z\b", body) and not any(re.search(r"\bof_z\b", x) for x in lines):
+            lines.append("use mir.Val.{of_z}")
         lines = [x for x in lines if not x.startswith("use ") or needed(x, body)]
         with open(os.path.join(folder, kind + ".antt"), "w", encoding="utf-8") as out:
             out.write("\n".join(lines) + "\n\n" + body + "\n")

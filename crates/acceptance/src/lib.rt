@@ -1,4 +1,6 @@
 // A series: its acceptance, and its value at a second (document 01, "Segments").
+#![tactic(auto)]
+
 ghost use Rattle.std.specs.Prelude.{◌≡◌};
 ghost use Rattle.refusals.specs.Verdict.{paper_check};
 ghost use Rattle.series.specs.Series.{series};

@@ -3,20 +3,20 @@
 use refusals::Refusal;
 
 // How many leap entries, suis and months a file has.
-#[derive(Drop)]
+#[derive(Clone, Copy)]
 pub struct Counts {
     pub entries: usize,
     pub suis: usize,
     pub months: usize,
 }
 
-#[derive(Drop)]
+#[derive(Clone, Copy)]
 pub enum FileAnswer {
     File(Counts),
     Refused(Refusal),
 }
 
-#[derive(Drop)]
+#[derive(Clone, Copy)]
 pub enum WriteAnswer {
     Written(usize),
     Refused(Refusal),

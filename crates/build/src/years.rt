@@ -17,14 +17,14 @@ use turns::inner::TurnList;
 use whole::inner::{add, signed};
 
 // How many months a sui has.
-#[derive(Drop)]
+#[derive(Clone, Copy)]
 pub enum YearAnswer {
     Year(usize),
     Refused(Refusal),
 }
 
 // How many months all suis have.
-#[derive(Drop)]
+#[derive(Clone, Copy)]
 pub enum YearsAnswer {
     Years(usize),
     Refused(Refusal),

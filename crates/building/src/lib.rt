@@ -14,7 +14,7 @@ mod refused;
 mod sections;
 
 // A series that is refused, or none.
-#[derive(Drop)]
+#[derive(Clone, Copy)]
 pub enum SeriesAnswer {
     Sun,
     Moon,

@@ -5,14 +5,14 @@ use refusals::Refusal;
 use times::Milli;
 
 // One reading of the clock: the count in the zone, and whether the second is an inserted one.
-#[derive(Drop)]
+#[derive(Clone, Copy)]
 pub struct Reading {
     pub milli: Milli,
     pub inserted: bool,
 }
 
 // A time as it is shown; the second is 60 inside an inserted one.
-#[derive(Drop)]
+#[derive(Clone, Copy)]
 pub struct ShownTime {
     pub date: Date,
     pub hour: u64,
@@ -21,13 +21,13 @@ pub struct ShownTime {
     pub millisecond: u64,
 }
 
-#[derive(Drop)]
+#[derive(Clone, Copy)]
 pub enum MilliAnswer {
     Found(Milli),
     Refused(Refusal),
 }
 
-#[derive(Drop)]
+#[derive(Clone, Copy)]
 pub enum ShownAnswer {
     Found(ShownTime),
     Refused(Refusal),

@@ -10,7 +10,7 @@ use month_rule::inner::month_of;
 use whole::inner::{add, in_range};
 
 // Where a walk over the months of a sui stands: whether all so far are good, how many of them are leap months, the handle of the next ordinary one, and the day on which the next must begin.
-#[derive(Drop)]
+#[derive(Clone, Copy)]
 pub struct Walked {
     pub good: bool,
     pub leaps: usize,
@@ -19,7 +19,7 @@ pub struct Walked {
 }
 
 // How the months of a sui were judged, and the day on which the next sui must begin.
-#[derive(Drop)]
+#[derive(Clone, Copy)]
 pub struct MonthsJudged {
     pub good: bool,
     pub due: i64,

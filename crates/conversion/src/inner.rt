@@ -15,7 +15,7 @@ use times::{Day, Milli, Second};
 use whole::inner::{floor_mod, in_range};
 
 // A TAI millisecond, counted from 2000-01-01 00:00 TAI. It does not leave this module.
-#[derive(Drop)]
+#[derive(Clone, Copy)]
 struct Tai(i64);
 
 // Whether a day may stand in a table.

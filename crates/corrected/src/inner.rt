@@ -17,14 +17,14 @@ use series::Body;
 use times::Second;
 
 // The segments from `first` on and before `end`: no other differs from the old one of its number.
-#[derive(Drop)]
+#[derive(Clone, Copy)]
 pub struct Changed {
     pub first: usize,
     pub end: usize,
 }
 
 // The marks behind `low` and up to `high`: no other listed mark is at another second than before.
-#[derive(Drop)]
+#[derive(Clone, Copy)]
 pub struct Moved {
     pub low: i64,
     pub high: i64,

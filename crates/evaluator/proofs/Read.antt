@@ -10,7 +10,7 @@ use Rattle.whole.specs.Ranges.{fit_hyp}
 use Rattle.chebyshev.specs.Segment.{coefficient, InRange}
 
 pub coefficient_back : {c : List ℤ} → InRange c → (n : ℕ) → 1 ≤ n → to_z w64 (of_z w64 (coefficient c n)) ≡ coefficient c n
-coefficient_back r n l = to_z-of_z (fit_hyp (r.others n l) tt)
+coefficient_back r n l = to_z-of_z {w = w64} (fit_hyp (r.others n l) tt)
 
 pub constant_back : {c : List ℤ} → InRange c → to_z w64 (of_z w64 (coefficient c 0)) ≡ coefficient c 0
-constant_back r = to_z-of_z (fit_hyp r.constant tt)
+constant_back r = to_z-of_z {w = w64} (fit_hyp r.constant tt)

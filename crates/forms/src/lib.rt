@@ -22,7 +22,7 @@ use series::{Body, ValueAnswer};
 use times::Second;
 
 // A series of either body: its start second and its coefficients, fourteen a segment.
-#[derive(Drop)]
+#[derive(Clone, Copy)]
 pub struct Series<'a> {
     pub start: Second,
     pub coefs: &'a [i64],

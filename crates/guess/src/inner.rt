@@ -109,7 +109,7 @@ fn ratio(a: i64, b: i64) -> i64
 }
 
 // A place, and how fast the value rises there: so much in half a segment.
-#[derive(Drop)]
+#[derive(Clone, Copy)]
 pub struct Aimed {
     pub place: i64,
     pub slope: i64,

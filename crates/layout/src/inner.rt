@@ -4,19 +4,19 @@ ghost use Rattle.layout.specs.Layout.{section_end, places, paper_end, paper_plac
 
 use refusals::Refusal;
 
-#[derive(Drop)]
+#[derive(Clone, Copy)]
 pub struct Places {
     pub sun: usize,
     pub moon: usize,
 }
 
-#[derive(Drop)]
+#[derive(Clone, Copy)]
 pub enum EndAnswer {
     At(usize),
     Refused(Refusal),
 }
 
-#[derive(Drop)]
+#[derive(Clone, Copy)]
 pub enum PlacesAnswer {
     Found(Places),
     Refused(Refusal),

@@ -9,7 +9,7 @@ mod lines;
 mod parts;
 
 // A part of the listing: how many whole lines it has, and how many bytes.
-#[derive(Drop)]
+#[derive(Clone, Copy)]
 pub struct Part {
     pub lines: usize,
     pub bytes: usize,

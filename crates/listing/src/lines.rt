@@ -15,7 +15,7 @@ use text::Moment;
 use times::Second;
 
 // What a line shows.
-#[derive(Drop)]
+#[derive(Clone, Copy)]
 pub struct Line {
     pub letter: u8,
     pub index: u64,

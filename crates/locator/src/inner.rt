@@ -132,7 +132,7 @@ pub fn locate(body: Body, start: Second, coefs: &[i64], index: i64) -> Second
 }
 
 // Two seconds: a mark's comes after the first, and by the second.
-#[derive(Drop)]
+#[derive(Clone, Copy)]
 pub struct Enclosing {
     pub after: i64,
     pub by: i64,

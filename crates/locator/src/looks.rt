@@ -92,7 +92,7 @@ fn place_for(coefs: &[i64], k: usize, target: i64) -> Aimed
 }
 
 // A second near the target, and how much the value rises in half a segment there.
-#[derive(Drop)]
+#[derive(Clone, Copy)]
 pub struct Near {
     pub at: i64,
     pub slope: i64,
@@ -118,7 +118,7 @@ pub fn second_for(body: Body, start: Second, coefs: &[i64], target: i64) -> Near
 // ---- a look
 
 // What a look leaves: two seconds, the first under the mark and the second at it or over; and by how much the value was under the mark.
-#[derive(Drop)]
+#[derive(Clone, Copy)]
 pub struct Looked {
     pub lo: i64,
     pub hi: i64,

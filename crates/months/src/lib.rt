@@ -3,7 +3,7 @@
 use refusals::Check;
 
 // A month: its handle, its first day, and how many days it has.
-#[derive(Drop)]
+#[derive(Clone, Copy)]
 pub struct Month {
     pub handle: i64,
     pub first: i64,
@@ -12,7 +12,7 @@ pub struct Month {
 
 // The days of a sui: how many months it has (12 or 13), its new-moon days from month 11 to the next sui's month 11, both ends, then zeros, and its
 // 13 zhongqi days.
-#[derive(Drop)]
+#[derive(Clone, Copy)]
 pub struct SuiDays {
     pub months: usize,
     pub moons: [i64; 14],
@@ -20,20 +20,20 @@ pub struct SuiDays {
 }
 
 // A sui: how many months it has, and those months; every place behind them holds zeros.
-#[derive(Drop)]
+#[derive(Clone, Copy)]
 pub struct Sui {
     pub count: usize,
     pub months: [Month; 13],
 }
 
 // What was found, or why there is none; refused, the rest is zeros.
-#[derive(Drop)]
+#[derive(Clone, Copy)]
 pub struct DaysAnswer {
     pub check: Check,
     pub days: SuiDays,
 }
 
-#[derive(Drop)]
+#[derive(Clone, Copy)]
 pub struct SuiAnswer {
     pub check: Check,
     pub sui: Sui,

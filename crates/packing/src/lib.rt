@@ -5,7 +5,7 @@ ghost use Rattle.packing.specs.Packing.{packed, held};
 mod passes;
 mod reading;
 
-#[derive(Drop)]
+#[derive(Clone, Copy)]
 pub enum PackAnswer {
     Packed(usize),
     Bad(usize, usize),

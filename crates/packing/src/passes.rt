@@ -7,7 +7,7 @@ ghost use Rattle.packing.specs.Passes.{judged, is_bad, ended_words, ended_bytes,
 use crate::reading::{At, Ended, State, end_of, ended_by, step};
 
 // How many words a text has, or where the first stands that is none.
-#[derive(Drop)]
+#[derive(Clone, Copy)]
 pub enum Judged {
     Words(usize),
     Bad(usize, usize),

@@ -5,7 +5,7 @@ ghost use Rattle.packing.specs.Reading.{is_comment, is_between, is_white, is_wor
 use words::inner::below_zero;
 
 // Where the reader stands: between words, in a comment, behind the sign of a word, behind a digit of one (below zero or not, and how far from it), or in what is no word.
-#[derive(Drop)]
+#[derive(Clone, Copy)]
 pub enum At {
     Between,
     Comment,
@@ -15,7 +15,7 @@ pub enum At {
 }
 
 // The line, how many words have begun in it, and where the reader stands.
-#[derive(Drop)]
+#[derive(Clone, Copy)]
 pub struct State {
     pub line: usize,
     pub word: usize,
@@ -23,7 +23,7 @@ pub struct State {
 }
 
 // What ends: nothing, a word with its number, or what is no word.
-#[derive(Drop)]
+#[derive(Clone, Copy)]
 pub enum Ended {
     Nothing,
     Word(i64),

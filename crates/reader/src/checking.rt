@@ -23,14 +23,14 @@ fn entry_words() -> [i64; 128]
 }
 
 // A sui: year and number of months.
-#[derive(Drop)]
+#[derive(Clone, Copy)]
 struct SuiRead {
     year: i64,
     months: i64,
 }
 
 // A month: handle, first day and length.
-#[derive(Drop)]
+#[derive(Clone, Copy)]
 struct MonthRead {
     handle: i64,
     first: i64,

@@ -19,13 +19,13 @@ use turns::inner::TurnList;
 use words::inner::signed4_at;
 
 // The first year of a file, and how many years it has.
-#[derive(Drop)]
+#[derive(Clone, Copy)]
 pub struct FileYears {
     pub first: i64,
     pub count: usize,
 }
 
-#[derive(Drop)]
+#[derive(Clone, Copy)]
 pub enum FileYearsAnswer {
     Years(FileYears),
     Refused(Refusal),

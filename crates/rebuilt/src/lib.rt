@@ -3,13 +3,13 @@
 use refusals::Refusal;
 
 // How many bytes the new file has, and how many years were listed.
-#[derive(Drop)]
+#[derive(Clone, Copy)]
 pub struct Rebuilt {
     pub bytes: usize,
     pub years: usize,
 }
 
-#[derive(Drop)]
+#[derive(Clone, Copy)]
 pub enum RebuildAnswer {
     Rebuilt(Rebuilt),
     Refused(Refusal),

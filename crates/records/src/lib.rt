@@ -14,7 +14,7 @@ use refusals::{Check, Refusal};
 use times::Second;
 
 // How many months were stored, or why none was.
-#[derive(Drop)]
+#[derive(Clone, Copy)]
 pub enum MonthsAnswer {
     Months(usize),
     Refused(Refusal),

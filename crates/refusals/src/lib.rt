@@ -1,14 +1,14 @@
 // A refusal: its number, as document 01's table gives it, and for 3 to 5 the first such segment, else zero.
 #![tactic(auto)]
 
-#[derive(Drop)]
+#[derive(Clone, Copy)]
 pub struct Refusal {
     pub number: u8,
     pub segment: usize,
 }
 
 // The answer of a judge: what was judged is accepted, or refused.
-#[derive(Drop)]
+#[derive(Clone, Copy)]
 pub enum Check {
     Accepted,
     Refused(Refusal),

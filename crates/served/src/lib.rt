@@ -3,7 +3,7 @@
 use refusals::Refusal;
 
 // Near or long, each with the segment that covers the second, counted from 0.
-#[derive(Drop)]
+#[derive(Clone, Copy)]
 pub enum ServesAnswer {
     Near(usize),
     Long(usize),

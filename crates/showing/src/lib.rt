@@ -9,7 +9,7 @@ use refusals::Refusal;
 mod lines;
 mod putting;
 
-#[derive(Drop)]
+#[derive(Clone, Copy)]
 pub enum ShowAnswer {
     Shown(usize),
     Refused(Refusal),

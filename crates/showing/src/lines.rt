@@ -11,7 +11,7 @@ use text::inner::digit;
 use times::Day;
 
 // What a line shows.
-#[derive(Drop)]
+#[derive(Clone, Copy)]
 struct Row {
     sui: u64,
     number: u64,

@@ -24,13 +24,13 @@ use zhongqi::{put_thirteen, zhongqi_days};
 pub mod zhongqi;
 
 // The place of the first solstice of a sui among the Sun's, and of month 11's new moon among the Moon's.
-#[derive(Drop)]
+#[derive(Clone, Copy)]
 pub struct Places {
     pub solstice: usize,
     pub newmoon: usize,
 }
 
-#[derive(Drop)]
+#[derive(Clone, Copy)]
 pub enum BeginAnswer {
     Begin(Places),
     Refused(Refusal),

@@ -2,7 +2,7 @@
 pub mod inner;
 
 // The numbers that a line shows, as counts.
-#[derive(Drop)]
+#[derive(Clone, Copy)]
 pub struct Moment {
     pub year: u64,
     pub month: u64,

@@ -2,13 +2,13 @@
 #![tactic(auto)]
 
 // A TDB second, counted from 2000-01-01 00:00:00 TDB.
-#[derive(Drop)]
+#[derive(Clone, Copy)]
 pub struct Second(pub i64);
 
 // A UTC+8 millisecond, counted from 2000-01-01 00:00 UTC+8; of another zone, from that moment there.
-#[derive(Drop)]
+#[derive(Clone, Copy)]
 pub struct Milli(pub i64);
 
 // A day number: the days from 2000-01-01.
-#[derive(Drop)]
+#[derive(Clone, Copy)]
 pub struct Day(pub i64);

@@ -16,7 +16,7 @@ use times::{Day, Second};
 use whole::inner::{add, distance, floor_mod, signed, subtract};
 
 // The turns of a series: the index of the first, and how many there are.
-#[derive(Drop)]
+#[derive(Clone, Copy)]
 pub struct TurnList {
     pub first: i64,
     pub count: usize,

@@ -59,7 +59,7 @@ fn floor_by_half(body: Body, t: i64) -> i64
 }
 
 // The values at a segment's first and last second.
-#[derive(Drop)]
+#[derive(Clone, Copy)]
 struct Ends {
     first: i64,
     last: i64,

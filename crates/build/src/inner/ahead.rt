@@ -22,7 +22,7 @@ fn sui_words() -> [i64; 256]
 }
 
 // How many solstices and how many new moons were found.
-#[derive(Drop)]
+#[derive(Clone, Copy)]
 pub struct Reach {
     pub solstices: usize,
     pub newmoons: usize,

@@ -24,20 +24,20 @@ use times::Second;
 use turns::inner::TurnList;
 
 // How many months were put.
-#[derive(Drop)]
+#[derive(Clone, Copy)]
 pub enum PutAnswer {
     Put(usize),
     Refused(Refusal),
 }
 
 // How many months were put, and how many years are listed.
-#[derive(Drop)]
+#[derive(Clone, Copy)]
 pub struct Again {
     pub months: usize,
     pub years: usize,
 }
 
-#[derive(Drop)]
+#[derive(Clone, Copy)]
 pub enum AgainAnswer {
     Again(Again),
     Refused(Refusal),
