@@ -115,16 +115,37 @@ def named(body, fields):
             break
     tail = body[at:]
     parts = tuple_parts(tail)
+    begin = ""
     if not parts:
-        return None
-    while len(parts) < len(fields):
-        more = tuple_parts(parts[-1])
-        if not more:
+        # `rw L (a, b)`: the tuple is the last argument
+        m = re.match(r"\s*(?:rw|simp) ", tail)
+        s = tail.rstrip()
+        if m and s.endswith(")"):
+            depth = 0
+            for i in range(len(s) - 1, -1, -1):
+                depth += (s[i] in ")}]") - (s[i] in "({[")
+                if depth == 0:
+                    break
+            parts = tuple_parts(s[i:])
+            begin = s[:i]
+    if parts:
+        while len(parts) < len(fields):
+            more = tuple_parts(parts[-1])
+            if not more:
+                return None
+            parts = parts[:-1] + more
+        if len(parts) != len(fields):
             return None
-        parts = parts[:-1] + more
-    if len(parts) != len(fields):
+    elif re.match(r"\s*(?:rw|simp|search|elim|λ|omega|cc|grind)\b", tail):
         return None
-    return body[:at] + " record { " + "; ".join(f"{f} = {p}" for f, p in zip(fields, parts)) + " }"
+    else:
+        t = tail.strip()
+        parts = [f"({t})" + ".1" * i + (".0" if i + 1 < len(fields) else "") for i in range(len(fields))]
+    made = "record { " + "; ".join(f"{f} = {p}" for f, p in zip(fields, parts)) + " }"
+    return body[:at] + (begin + "(" + made + ")" if begin else " " + made)
+
+
+TOLD = re.compile(r"_told\d*(?:-|$)|shared_slice_known|_known\d*(?:-|$)")
 
 
 class Function:
@@ -139,23 +160,94 @@ class Function:
         self.order = d["needs"]
         self.asked = d.get("asked") or {}
         self.steps, self.places, self.clauses = {}, {}, {}
+        self.parent = {norm(p[0]): norm(p[1]) if p[1] else None for p in d["places"]}
+        self.steps_of = {norm(p[0]): p[2][1] for p in d["places"] if p[2]}
+        kinds = {norm(p[0]): v for p, v in zip(d["places"], d["typed"])}
+        self.skipped = {n for n in self.places if re.search("enum-told|known-told", n) and kinds[n] == kinds.get(self.parent[n])}
+        self.viewed = {norm(p[0]): bool(v) for p, v in zip(d["places"], d["typed"])}
+        self.at = {b: norm(a[0]) for (_, b), a in zip(d["needs"], d["asked_at"])}
         for i, p in enumerate(d["places"]):
             self.places[norm(p[0])] = d["places_by_name"][i]
             if p[2] and p[2][0]:
                 self.steps[norm(p[2][0])] = p[2][1]
-                if d["clauses"][i]:
-                    self.clauses[p[2][1]] = d["clauses"][i]
+                if d["clauses"][i] and d["clauses"][i].get("fields"):
+                    self.clauses[p[2][1]] = d["clauses"][i]["fields"]
         self.loops = [(a, b, v, d["changed"][i]) for i, ((a, b), v) in enumerate(d["loops"])]
         self.bits = {(p[2][1], a): b for p in d["places"] for a, b in p[4] if b == a + "-bits"}
         self.pre = (d.get("pre") or {}).get("fields")
         self.args = {a: b for a, b in d["args"]} if d["args"] and isinstance(d["args"][0], list) else {}
 
-    def terms(self, text):
+    def chain(self, text, env, goal=None):
+        """Paths by `.before`: a field is named at once, and a place is reached over the places that are left."""
+        # a name for a place is written out, so that each path begins at the goal
+        for _ in range(99):
+            m = next((m for m in reversed(list(re.finditer(r"(?<![\w'])let ([^\s(){}.;,:]+) = ([A-Za-z_][\w'-]*)((?:\.before(?![\w'-]))+) in(?: |(\n) *)", text))) if m.group(2) in env), None)
+            if not m:
+                break
+            head, rest = text[: m.start()], text[m.end() :]
+            rest = re.sub(r"(?<![\w.'₀-])" + re.escape(m.group(1)) + r"(?![\w'₀-])(?! : )", lambda _m: m.group(2) + m.group(3), rest)
+            text = head + rest
+
+        def up(at, k):
+            for _ in range(k):
+                at = self.parent.get(at) if at else None
+            return at
+
+        def steps(a, b):
+            n = 1 if goal and a != b and self.viewed.get(a) else 0
+            while a and a != b:
+                a = self.parent.get(a)
+                n += a not in self.skipped
+            return n
+
+        def one(m):
+            name, befores, rest = m.group(1), m.group(2), m.group(3)
+            if name not in env:
+                return m.group(0)
+            line = text[text.rfind("\n", 0, m.start()) + 1 : m.start()]
+            after = text[m.end() : m.end() + 40]
+            if not befores and not rest and re.match(r"[^\s(){}:=]+(?: [^\s(){}:=]+)* $", line) and re.match(r"(?: [^\s(){}:=]+)* =\s", after):
+                return m.group(0)
+            if rest and re.search(r"\.given\.1$", rest):
+                arm = env[name]
+                while arm and not re.match(r"in[-_]", self.steps_of.get(arm, "")):
+                    arm = self.parent.get(arm)
+                if arm:
+                    return f"{name}.{self.steps_of[arm]}.is"
+            if rest and re.search(r"\.given$", rest):
+                return "(omega arith)"
+            q = up(env[name], befores.count(".before"))
+            if not q:
+                return m.group(0)
+            if rest:
+                return name + rest
+            while TOLD.search(self.places.get(q, "")) and self.parent.get(q):
+                q = self.parent[q]
+            return name + ".before" * steps(env[name], q)
+
+        return re.sub(r"(?<![\w.'₀-])([A-Za-z_][\w'-]*)((?:\.before(?![\w'-]))*)((?:\.[^\s(){}.;,]+)*)(?![\w'])(?! :)", one, text)
+
+    def binders(self, text):
+        """The variables of a declaration that stand for places."""
+        env = {}
+        for m in re.finditer(r"\(([^\s(){}:]+) : (?:lts|tie)\.([^\s(){}.;,]+)", text):
+            if norm(m.group(2)) in self.places:
+                env[m.group(1)] = norm(m.group(2))
+        for m in re.finditer(r"^\s+(?:abbrev |pub )*([^\s(){}:]+) : (?:lts|tie)\.([^\s(){}.;,]+)", text, re.M):
+            if norm(m.group(2)) in self.places:
+                env[m.group(1)] = norm(m.group(2))
+        return env
+
+    def terms(self, text, env, goal=None):
         """A term with today's names."""
         used = set()
+        text = self.chain(text, env, goal)
 
         def place(m):
-            n = self.places.get(norm(m.group(1)))
+            n = norm(m.group(1))
+            while n and TOLD.search(self.places.get(n, "")) and self.parent.get(n):
+                n = self.parent[n]
+            n = self.places.get(n)
             if not n:
                 return m.group(0)
             used.add(n)
@@ -181,10 +273,16 @@ class Function:
             return w
 
         text = TOKEN.sub(step, text)
+        path = r"(?:[^\s(){}.;,]+\.)*[^\s(){}.;,]+"
+        text = re.sub(r"(\.loop[^\s(){}.;,]*)\.inv\b", r"\1.invariant", text)
+        text = re.sub(r"\bap not \(sym (" + path + r")\) ∙ (" + path + r"\.if-not-[^\s(){}.;,]+\.(?:true|false))", r"ap not (sym \1 ∙ \2)", text)
+        text = re.sub(r"\bnot-(?:true|false) " + path + r" \(?(" + path + r"\.if-not-[^\s(){}.;,]+\.(?:true|false))\)?", r"\1", text)
+        text = re.sub(r"\bback (" + path + r") " + path + r"told[^\s(){};,]*\.given[^\s(){};,]*", r"back \1 (omega arith)", text)
+        text = re.sub(r"\((fits_of _ )?" + path + r"\.given\)", r"(\1(omega arith))", text) if False else text
         for (s, a), b in self.bits.items():
             path = r"(?:[^\s(){}.;,]+\.)+" + re.escape(s) + r"\." + re.escape(a) + r"(?![\w'-])"
             text = re.sub(path, lambda m: m.group(0)[: -len(a)] + b, text)
-        text = re.sub(r"\bto_z-of_z \((record \{|fit_hyp )(?!\{)", r"to_z-of_z {w = w64} (\1", text)
+        text = re.sub(r"\bto_z-of_z \(", r"to_z-of_z {w = w64} (", text)
         if self.pre:
             text = re.sub(r"\.(?:requires|pre)((?:\.[01](?![\w-]))+)", lambda m: ".requires" + chain(m.group(1), self.pre), text)
         for s, fields in self.clauses.items():
@@ -290,17 +388,19 @@ def turn(names, crate, folder, said, ensures):
             if not new:
                 said.append(f"left: {folder}: {d['name']} : Need-{m.group(1)} has no goal")
                 continue
+            if TOLD.search(new) and d["name"] not in f.cited:
+                continue
             unf = [x for x in d["lines"] if x.startswith("unfolding")]
-            clause = re.search(r"^" + re.escape(d["name"]) + r" (\S+)((?: \S+)*) =(?=\s)(.*)", body, re.M | re.S)
+            clause = re.search(r"^" + re.escape(d["name"]) + r" (\S+)((?: \S+)*?) =(?=\s)(.*)", body, re.M | re.S)
             if not clause:
-                clause = re.search(r"^" + re.escape(d["name"]) + r"() ?((?: \S+)*)=(?=\s)(.*)", body, re.M | re.S)
+                clause = re.search(r"^" + re.escape(d["name"]) + r"() ?((?: \S+)*?)=(?=\s)(.*)", body, re.M | re.S)
             if not clause:
                 said.append(f"left: {folder}: {d['name']} has another form")
                 continue
             term = clause.group(3)
             if TRIVIAL.match(term) and not unf and d["name"] not in f.cited:
                 continue
-            term, u = f.terms(term)
+            term, u = f.terms(term, {clause.group(1): f.at.get(new)}, new)
             used |= u
             fields = f.asked.get(m.group(1)) or f.asked.get(norm(m.group(1))) or next((v for k, v in f.asked.items() if norm(k) == norm(m.group(1))), None)
             if new.startswith("returns") and len(f.ensures) > 1:
@@ -312,8 +412,7 @@ def turn(names, crate, folder, said, ensures):
                 else:
                     said.append(f"look: {folder}: {new} has the clauses {fields}")
             more = clause.group(2)
-            if re.search(r"\bκs$", more) and not re.search(r"(?<![\w'])κs(?![\w'])", term):
-                more = re.sub(r" κs$", "", more)
+            more = re.sub(r" κs$", "", more)
             answers.append("\n".join(comment + [f"pub {new} : goal.{new}"] + unf + [f"{new} {clause.group(1)}{more} ={term.rstrip()}"]))
             continue
         if "statement" in d["sig"] or re.search(r"\btie\.spec\b", body):
@@ -325,7 +424,7 @@ def turn(names, crate, folder, said, ensures):
             continue
         if d["name"] == "called" or re.match(r"lts\.Claims", d["sig"]):
             continue
-        body, u = f.terms(body)
+        body, u = f.terms(body, f.binders(body))
         used |= u
         helpers.append((d["name"], "\n".join(comment + [body]), u, d["mods"]))
         answers.append(helpers[-1])
@@ -336,7 +435,7 @@ def turn(names, crate, folder, said, ensures):
         for a, (_, new) in zip(rest, f.order):
             m = re.match(r"\(λ (\S+)\.(.*)\)$", a, re.S)
             if m and not TRIVIAL.match(m.group(2)):
-                term, u = f.terms(m.group(2))
+                term, u = f.terms(m.group(2), {m.group(1): f.at.get(new)}, new)
                 used |= u
                 fields = next((v for k, v in f.asked.items() if norm(k) == norm(_)), None)
                 if fields and len(fields) > 1:
@@ -373,6 +472,8 @@ def turn(names, crate, folder, said, ensures):
         body = "\n\n".join(parts)
         if re.search(r"\bw64\b", body) and not any(re.search(r"\bw64\b", x) for x in lines):
             lines.append("use mir.Syntax.{w64}")
+        if re.search(r"\barith\b", body) and not any(re.search(r"\barith\b", x) for x in lines):
+            lines.append("use native.Mathlib.Omega.{arith}")
         if re.search(r"\bof_z\b", body) and not any(re.search(r"\bof_z\b", x) for x in lines):
             lines.append("use mir.Val.{of_z}")
         lines = [x for x in lines if not x.startswith("use ") or needed(x, body)]
