@@ -4,7 +4,6 @@ use Rattle.std.specs.Prelude.{Bool, not, List, [], ◌∷◌, ◌++◌, T, eqb, 
 use Rattle.whole.specs.Floor.{floor_mod}
 use Rattle.whole.specs.Below.{every}
 use Rattle.whole.specs.Evaluated.{all, same_numbers}
-use Rattle.refusals.specs.Verdict.{answered}
 use Rattle.refusals.specs.Evaluated.{is_accepted, is_refused}
 use Rattle.dates.specs.Answers.{has_date}
 use Rattle.clock.specs.Leap.{first_entry, next_entry, good_entry, whole_pairs, leap_lawful}

@@ -3,7 +3,7 @@
 use Rattle.std.specs.Prelude.{◌≡◌, true, not, List, ℕ}
 use Rattle.std.proofs.Common.{sym, ap, ◌∙◌}
 use Rattle.std.proofs.lemmas.Bool.{not-false}
-use Rattle.refusals.specs.Verdict.{answered, refuse_when, then_answered, test_answered, answers_apart, ◌before◌, ◌then◌}
+use Rattle.refusals.specs.Verdict.{answered, then_answered, test_answered, answers_apart}
 use Rattle.words.specs.Theorems.{Bytes}
 use Rattle.almanac.specs.declared.Counts.{Counts}
 use Rattle.content.specs.Content.{Content, lawful}

@@ -1,5 +1,7 @@
 // The almanac file as records, and on paper (`specs/`): the bytes of a content, which files are read, with examples and theorems (document 01, "Almanac file").
 // Nothing here runs: the functions are those of `reader` and `writer`.
+#![tactic(auto)]
+
 use refusals::Refusal;
 
 // How many leap entries, suis and months a file has.

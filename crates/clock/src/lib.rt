@@ -1,5 +1,7 @@
 // The clock as records, and on paper (`specs/`): leap tables, and from TDB seconds to the milliseconds, days and shown times of a zone (document 01, "Three counts of
 // time"), with examples and theorems. Nothing here runs: the functions are those of `conversion`.
+#![tactic(auto)]
+
 use dates::Date;
 use refusals::Refusal;
 use times::Milli;

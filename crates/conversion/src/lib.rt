@@ -1,5 +1,7 @@
 // The clock read: from TDB seconds by a leap table to the milliseconds, days and shown times of a zone (document 01, "Three counts of time"; document 02, orders 2
 // and 5). The zone is in minutes, -720 to 840. Definitions, examples and theorems are those of `clock`.
+#![tactic(auto)]
+
 ghost use Rattle.std.specs.Prelude.{◌≡◌};
 ghost use Rattle.refusals.specs.Verdict.{paper_check};
 ghost use Rattle.dates.specs.Answers.{paper_day};

@@ -1,4 +1,6 @@
 // Days and Gregorian dates (document 01, "Three counts of time").
+#![tactic(auto)]
+
 ghost use Rattle.std.specs.Prelude.{◌≡◌};
 ghost use Rattle.dates.specs.Answers.{date_of, day_of, paper_date, paper_day};
 

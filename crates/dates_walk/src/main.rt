@@ -1,8 +1,10 @@
 // Walks every day that has a date through both directions and counts those that come back, the firsts and the thirty-firsts of a month among them.
+#![tactic(auto)]
+
 ghost use Rattle.std.specs.Prelude.{◌<◌, ◌≤◌};
 
 use dates::{DateAnswer, DayAnswer};
-use libc::STDOUT_FILENO;
+use std::io;
 use times::Day;
 
 // Day -150,000 + k.
@@ -37,7 +39,7 @@ fn one_if(counted: bool) -> u64
     if counted { 1 } else { 0 }
 }
 
-fn main() {
+fn main(rt: HostRuntime) -> io::Result<()> {
     let mut back: u64 = 0;
     let mut firsts: u64 = 0;
     let mut lasts: u64 = 0;
@@ -49,10 +51,5 @@ fn main() {
         lasts += one_if(has_day(day, 31));
         k += 1;
     }
-    io::print_decimal(STDOUT_FILENO, back);
-    io::write_all(STDOUT_FILENO, b" days there and back, ");
-    io::print_decimal(STDOUT_FILENO, firsts);
-    io::write_all(STDOUT_FILENO, b" firsts, ");
-    io::print_decimal(STDOUT_FILENO, lasts);
-    io::write_all(STDOUT_FILENO, b" thirty-firsts\n");
+    println!(rt; "{back} days there and back, {firsts} firsts, {lasts} thirty-firsts")
 }

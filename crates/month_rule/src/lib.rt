@@ -1,4 +1,6 @@
 // The month rule over days (document 01, "Months of a sui"). Definitions, examples and theorems are those of `months`.
+#![tactic(auto)]
+
 ghost use Rattle.std.specs.Prelude.{◌≡◌};
 ghost use Rattle.months.specs.Limits.{months_of};
 ghost use Rattle.months.specs.Answers.{sui_answer};

@@ -1,6 +1,6 @@
 -- Numbers, leap marks and handles of the months of a sui, and the month record (document 01, "Months of a sui"). A place is counted from the sui's first
 -- month, 0. Assumes nothing: these are definitions.
-use Rattle.std.specs.Prelude.{cond, ℕ, ◌+◌, ◌*◌, ◌%◌, eqb, ltb, ℤ, pos, ◌+ℤ◌, ◌-ℤ◌, ◌*ℤ◌, length}
+use Rattle.std.specs.Prelude.{cond, ℕ, ◌+◌, ◌*◌, ◌%◌, eqb, ltb, ℤ, pos, ◌+ℤ◌, ◌-ℤ◌, ◌*ℤ◌}
 use Rattle.months.specs.declared.Month.{Month}
 
 -- months number 11, 12, 1, .. 10

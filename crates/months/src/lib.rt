@@ -1,5 +1,7 @@
 // Months and suis as records, and on paper (`specs/`) the month rule over days alone: definitions, examples and theorems (document 01, "Months of a sui").
 // Nothing here knows of series, instants or dates, and nothing runs: the functions are those of `month_rule`.
+#![tactic(auto)]
+
 use refusals::Check;
 
 // A month: its handle, its first day, and how many days it has.

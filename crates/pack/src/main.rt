@@ -1,4 +1,8 @@
 // Packs decimal words, as text, into 64-bit little-endian words; or says in one line why not.
-fn main() {
-    pack_run::pack_from(0);
+#![tactic(auto)]
+
+use std::io;
+
+fn main(rt: HostRuntime) -> io::Result<()> {
+    pack_run::pack_from(&rt, &mut rt.stdin())
 }

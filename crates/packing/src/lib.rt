@@ -1,4 +1,6 @@
 // Decimal words as text, packed into 64-bit little-endian words.
+#![tactic(auto)]
+
 ghost use Rattle.std.specs.Prelude.{◌≡◌, length};
 ghost use Rattle.packing.specs.Packing.{packed, held};
 

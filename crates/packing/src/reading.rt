@@ -58,6 +58,7 @@ fn wide(byte: u8) -> u64
 }
 
 // A byte behind so many units, which is to be a digit.
+#[tactic(auto, unfolding(crate::specs::Reading::after_digit))]
 fn after_digit(below: bool, n: u64, byte: u8) -> At
     ensures { result ≡ after_digit below n byte }
 {
@@ -75,6 +76,7 @@ fn after_digit(below: bool, n: u64, byte: u8) -> At
 }
 
 // The first byte of a word.
+#[tactic(auto, unfolding(crate::specs::Reading::beginning))]
 fn beginning(byte: u8) -> At
     ensures { result ≡ beginning byte }
 {
@@ -88,6 +90,7 @@ fn beginning(byte: u8) -> At
 }
 
 // A word's byte.
+#[tactic(auto, unfolding(crate::specs::Reading::in_word))]
 fn in_word(at: At, byte: u8) -> At
     ensures { result ≡ in_word at byte }
 {
@@ -125,6 +128,7 @@ fn is_between(at: At) -> bool
 }
 
 // Where a byte other than a line feed leaves the reader.
+#[tactic(auto, unfolding(crate::specs::Reading::at_next))]
 fn at_next(at: At, byte: u8) -> At
     ensures { result ≡ at_next at byte }
 {
@@ -141,6 +145,7 @@ fn at_next(at: At, byte: u8) -> At
 }
 
 // Whether a word begins with a byte.
+#[tactic(auto, unfolding(crate::specs::Reading::began_at))]
 fn begins(at: At, byte: u8) -> bool
     ensures { result ≡ began_at at byte }
 {
@@ -151,6 +156,7 @@ fn begins(at: At, byte: u8) -> bool
 }
 
 // One byte on.
+#[tactic(auto, unfolding(crate::specs::Reading::step))]
 pub fn step(state: State, byte: u8) -> State
     requires { (state.line < 2 ^ 63) × (state.word < 2 ^ 63) }
     ensures { result ≡ step state byte }
@@ -193,6 +199,7 @@ fn signed(below: bool, n: u64) -> i64
 }
 
 // What ends where the reader stands, at the end of a word or of the text.
+#[tactic(auto, unfolding(crate::specs::Reading::end_of))]
 pub fn end_of(at: At) -> Ended
     ensures { result ≡ end_of at }
 {
@@ -216,6 +223,7 @@ fn limit_of(below: bool) -> u64
 }
 
 // A number ends.
+#[tactic(auto, unfolding(crate::specs::Reading::end_of))]
 fn ended_number(below: bool, n: u64) -> Ended
     ensures { result ≡ end_of (At.Number below n) }
 {
@@ -226,6 +234,7 @@ fn ended_number(below: bool, n: u64) -> Ended
 }
 
 // What a byte ends.
+#[tactic(auto, unfolding(crate::specs::Reading::ended_by))]
 pub fn ended_by(at: At, byte: u8) -> Ended
     ensures { result ≡ ended_by at byte }
 {

@@ -3,6 +3,7 @@ ghost use Rattle.std.specs.Prelude.{◌≡◌, ◌+◌, ◌*◌, ◌≤◌, leng
 ghost use Rattle.pieces.specs.Pieces.{piece_taken};
 
 // Takes the next piece of an input: its words go behind those of the bytes that were taken before it. Says how many bytes are taken now.
+#[tactic(auto, unfolding(crate::specs::Pieces::piece_taken))]
 pub fn take(piece: &[u8], taken: usize, words: &mut [i64]) -> usize
     requires words_len_bound { length words.old ≤ 300000 }
     requires piece_len_bound { length piece.now ≤ 65536 }

@@ -1,2 +1,4 @@
 // An input that is read in pieces, of which only the words are kept. For programs.
+#![tactic(auto)]
+
 pub mod inner;

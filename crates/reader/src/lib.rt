@@ -1,4 +1,6 @@
 // The almanac file, checked and read (document 01, "Almanac file").
+#![tactic(auto)]
+
 ghost use Rattle.std.specs.Prelude.{◌≡◌, length};
 ghost use Rattle.refusals.specs.Lent.{written_into};
 ghost use Rattle.content.specs.Content.{leap_words, sui_words_lem, month_words_lem};

@@ -116,8 +116,8 @@ columns_wide_enough c l k h = record {
 
     handle_at_lem : Counted 100000 (month_at c.months k).handle
     handle_at_lem =
-        let range = year_range c r p.i p.sui-in in
-        rw p.is (⊎_elim (λ e. handle_wide _ _ _ _ range e) (λ e. handle_wide _ _ _ _ range e) (handle_is c r p.i p.sui-in p.place p.place_in))
+        let range = year_range c r p.i p.sui_in_lem in
+        rw p.is (⊎_elim (λ e. handle_wide _ _ _ _ range e) (λ e. handle_wide _ _ _ _ range e) (handle_is c r p.i p.sui_in_lem p.place p.place_in))
 
     days_at : Counted 100 (month_at c.months k).length
-    days_at = rw p.is (in-column 100 (pos 29) (pos 30) _ (length_range c r p.i p.sui-in p.place p.place_in) (omega ℤ_rules) (omega ℤ_rules))
+    days_at = rw p.is (in-column 100 (pos 29) (pos 30) _ (length_range c r p.i p.sui_in_lem p.place p.place_in) (omega ℤ_rules) (omega ℤ_rules))

@@ -65,7 +65,7 @@ pub fn put(room: &mut [u8], at: usize, part: &[u8])
     requires { at + length part.now ≤ length room.old }
     ensures { room.new ≡ take at room.old ++ part.now ++ drop (at + length part.now) room.old }
 {
-    bytes::copy(part, &mut room[at..]);
+    room[at..at + part.len()].copy_from_slice(part);
 }
 
 // Puts two parts into the room, one behind the other, and says where they end.

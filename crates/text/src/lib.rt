@@ -1,4 +1,6 @@
 // The bytes of a line of the listing.
+#![tactic(auto)]
+
 pub mod inner;
 
 // The numbers that a line shows, as counts.

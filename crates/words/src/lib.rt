@@ -1,2 +1,4 @@
 // Signed little-endian words in bytes.
+#![tactic(auto)]
+
 pub mod inner;

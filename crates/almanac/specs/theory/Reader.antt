@@ -1,5 +1,5 @@
 -- Reading a file into lent words: what the check says of it, and what each lent place holds afterwards. Assumes nothing.
-use Rattle.std.specs.Prelude.{◌≡◌, refl, true, false, List, ◌++◌, ℕ, ◌+◌, ◌*◌, ◌≤◌, ltb, ℤ, length, drop}
+use Rattle.std.specs.Prelude.{◌≡◌, refl, true, false, List, ◌++◌, ℕ, ◌*◌, ◌≤◌, ltb, ℤ, length, drop}
 use Rattle.std.proofs.Common.{sym, ap, ◌∙◌, arith, ltb-false}
 use Rattle.refusals.specs.Verdict.{Verdict, answered, refused, answers_apart, answer_or_refusal, then_answered, refuse_when, ◌before◌, ◌then◌}
 use Rattle.refusals.specs.Lent.{written_into}

@@ -279,4 +279,4 @@ lawful_fits c e = record {
     month : (k : ℕ) → k < month_count c → FitsField unsigned (get_or c.months (3 * k) (pos 0)) × (FitsField signed (get_or c.months (3 * k + 1) (pos 0)) × FitsField one_byte (get_or c.months (3 * k + 2) (pos 0)))
     month k h =
         let p = placed c r k h in
-        rw p.is (handle_small c r p.i p.sui-in p.place p.place_in, (first_small c r p.i p.sui-in p.place p.place_in, length_small c r p.i p.sui-in p.place p.place_in))
+        rw p.is (handle_small c r p.i p.sui_in_lem p.place p.place_in, (first_small c r p.i p.sui_in_lem p.place p.place_in, length_small c r p.i p.sui_in_lem p.place p.place_in))

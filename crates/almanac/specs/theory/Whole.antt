@@ -7,7 +7,7 @@ use native.Mathlib.Omega.{arith}
 use Rattle.std.proofs.Math.Nat.{mul-div_cancel_left}
 use borrow.Author.Tests.{le-ltb, eq-eqb, eqb-true, not-false}
 use Rattle.std.proofs.Math.ListN.{take}
-use Rattle.refusals.specs.Verdict.{answered, refuse_when, test_answered, answers_apart, ◌before◌, ◌then◌}
+use Rattle.refusals.specs.Verdict.{answered, test_answered, answers_apart}
 use Rattle.words.specs.Words.{pattern4, unsigned4, bytes4}
 use Rattle.words.specs.Theorems.{Bytes, unsigned_written_back, unsigned_read_back}
 use Rattle.almanac.specs.declared.Counts.{Counts}

@@ -6,7 +6,7 @@ use mathlib.Core.List.{List, ◌++◌}
 use Prim.Native.Nat.{ℕ, ◌+◌, ◌≤◌, ◌<◌}
 use Rattle.std.proofs.Math.ListN.{drop, length-append}
 use Rattle.whole.specs.Lists.{placed, placed_both}
-use Rattle.refusals.specs.Verdict.{Verdict, answered, refused, ◌then◌}
+use Rattle.refusals.specs.Verdict.{Verdict, answered, refused}
 use Rattle.refusals.specs.Lent.{written_into}
 use Rattle.words.specs.Words.{bytes4}
 use Rattle.content.specs.Content.{Content, entry_count, sui_count, month_count, lawful}

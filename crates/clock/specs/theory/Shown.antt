@@ -1,5 +1,5 @@
 -- Of two readings in order, the first is shown first: by the day, by the minute of the day, or by the second that is said. Assumes nothing.
-use Rattle.std.specs.Prelude.{ℕ, suc, ◌+◌, ◌*◌, ◌/◌, ◌%◌, ◌<◌, ◌≤◌, ◌≡◌, refl, Bool, ℤ, ◌+ℤ◌, ◌*ℤ◌, ◌≤ℤ◌, ◌<ℤ◌}
+use Rattle.std.specs.Prelude.{ℕ, ◌+◌, ◌/◌, ◌%◌, ◌<◌, ◌≤◌, ◌≡◌, refl, Bool, ℤ, ◌+ℤ◌, ◌*ℤ◌, ◌≤ℤ◌, ◌<ℤ◌}
 use Rattle.std.proofs.Math.Path.{sym, ap}
 use Rattle.std.proofs.Common.{◌∙◌}
 use Rattle.std.proofs.Math.Bool.{true, false, cond}
@@ -17,7 +17,7 @@ use Rattle.times.specs.declared.Second.{Second}
 use Rattle.dates.specs.Calendar.{date_for}
 use Rattle.dates.specs.Order.{date_first, later_day_later_date, same_date_then, same_date_not, not_both_dates_first}
 use Rattle.clock.specs.declared.ShownTime.{ShownTime}
-use Rattle.clock.specs.Leap.{leap_lawful, holds_from, inserted}
+use Rattle.clock.specs.Leap.{leap_lawful, inserted}
 use Rattle.clock.specs.Clock.{tai, reading, count_in, day_of_milli, second_said, shown_by, shown_in}
 use Rattle.clock.specs.Order.{shown_first}
 use Rattle.clock.specs.theory.Counts.{count_goes_on, Stays, on_or_stays}

@@ -117,10 +117,10 @@ module _ (months : List ℤ) (year count : ℤ) (from : ℕ) where
         record {
           few = omega arith;
           good = every_next (good_month months year count from) place s.good (month_judged ∙ rw (on.handle, on.days));
-          counted = rw one (omega (arith, s.counted, on.leaps-on));
-          at_most = omega (arith, s.at_most, on.leaps-on);
-          handle = rw on.leaps-on on.next-on;
-          due = rw (one, up, on.due-on) (due_next months k s.due.dated (sym (days_judged months k day s.due) ∙ on.days));
+          counted = rw one (omega (arith, s.counted, on.leaps_on));
+          at_most = omega (arith, s.at_most, on.leaps_on);
+          handle = rw on.leaps_on on.next_on;
+          due = rw (one, up, on.due_on) (due_next months k s.due.dated (sym (days_judged months k day s.due) ∙ on.days));
         }
 
     pub month_stops : place < nat_abs count → r.good ≡ false → false ≡ good_months months year count from
@@ -238,7 +238,7 @@ module _ (suis months : List ℤ) where
 
   module _ (i from : ℕ) (year day : ℤ) (s : SuisSoFar i from year day) (inside : i < length suis / 2) where
     pub here_judged : sui_after year (year_at suis i) (count_at suis i) ≡ good_sui suis i
-    here_judged = rw s.year-due (sui_judged suis i)
+    here_judged = rw s.year_due_lem (sui_judged suis i)
 
     pub sui_stops : sui_after year (year_at suis i) (count_at suis i) ≡ false → false ≡ suis_lawful suis months
     sui_stops bad = unlawful (λ e. not_both (every_at (good_sui suis) (length suis / 2) (parts e).0 i inside) (sym here_judged ∙ bad))

@@ -21,7 +21,7 @@ module _ (c : Content) (r : Rules c) where
   days k = (month_at c.months k).length
 
   rules_at : (k : ℕ) → k < month_count c → (good_start c.months k ≡ true) × ((in_range (pos 29) (pos 30) (days k) ≡ true) × (has_date (first k +ℤ days k -ℤ pos 1) ≡ true))
-  rules_at k h = let p = placed c r k h in rw p.is (days_parts c r p.i p.sui-in p.place p.place_in)
+  rules_at k h = let p = placed c r k h in rw p.is (days_parts c r p.i p.sui_in_lem p.place p.place_in)
 
   -- a month's first day is the day after the one before it ends, and no later than its own last day
   first_dated : (k : ℕ) → k < month_count c → has_date (first k) ≡ true
