@@ -1,4 +1,6 @@
 // The finder: how many marks a series has, and their list. Definitions, examples and theorems are those of `marks`.
+#![tactic(auto)]
+
 ghost use Rattle.std.specs.Prelude.{◌≡◌, length};
 ghost use Rattle.series.specs.Series.{series};
 ghost use Rattle.series.specs.Acceptance.{Accepted};

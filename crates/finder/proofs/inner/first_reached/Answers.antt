@@ -1,0 +1,12 @@
+-- `finder::inner::first_reached` meets its contract. Assumes nothing.
+use mathlib.Core.Path.{◌∙◌}
+use Rattle.whole.specs.Ranges.{back}
+use Rattle.series.specs.Series.{series}
+use Rattle.series.specs.theory.Span.{start_in_span}
+use Rattle.finder.proofs.inner.first_reached.Goals as goal
+
+pub index_at-requires : goal.index_at-requires
+index_at-requires c = record { accepted = c.requires; in_span = start_in_span (series c.args.body c.args.start.0 c.args.coefs.now) c.requires }
+
+pub returns : goal.returns
+returns c = back c.index_at.result c.index_at.type_inv ∙ c.index_at.ensures
