@@ -1,35 +1,36 @@
 // The build program's own code over each zone and file that are named: many cases in one run, each under its names. No contract can hold what a program prints, so
 // these hold it.
+#![tactic(auto)]
+
 ghost use Rattle.std.specs.Prelude.{◌≤◌};
 
 use build_run::inner::{open_argument, print_argument, zone_argument};
+use std::io;
+use std::rt::{Env, Files};
 
 // Builds in the zone that argument i says, from the file that the next one names.
-fn build_case(i: usize)
+fn build_case(rt: &(impl Env + Files + Print + Eprint), i: usize) -> io::Result<()>
     requires { i ≤ 1000 }
 {
-    io::write_all(libc::STDOUT_FILENO, b"# ");
-    print_argument(i);
-    io::write_all(libc::STDOUT_FILENO, b" ");
-    print_argument(i + 1);
-    io::write_all(libc::STDOUT_FILENO, b"\n");
-    let fd = open_argument(i + 1);
-    if fd < 0 {
-        io::write_all(libc::STDOUT_FILENO, b"cannot be read\n");
-        return;
+    print!(rt; "# ")?;
+    print_argument(rt, i)?;
+    print!(rt; " ")?;
+    print_argument(rt, i + 1)?;
+    println!(rt)?;
+    match open_argument(rt, i + 1) {
+        Err(_) => println!(rt; "cannot be read"),
+        Ok(mut input) => build_run::build_from(rt, &mut input, zone_argument(rt, i)),
     }
-    build_run::build_from(fd, zone_argument(i));
-    libc::close(fd);
 }
 
-fn main() {
-    let count = os::arg_count();
+fn main(rt: HostRuntime) -> io::Result<()> {
     let mut i = 1;
-    while i < count {
-        if 1000 < i {
-            return;
+    while i <= 1000 {
+        if !outside::has_argument(&rt, i) {
+            return Ok(());
         }
-        build_case(i);
+        build_case(&rt, i)?;
         i += 2;
     }
+    Ok(())
 }

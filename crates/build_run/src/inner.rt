@@ -1,10 +1,14 @@
 // What the programs that build have in common: rooms for an input and a file, arguments, an input taken piece by piece, and how a refusal is printed.
-ghost use Rattle.std.specs.Prelude.{◌≡◌, ◌≤◌, length};
+ghost use Rattle.std.specs.Prelude.{◌≡◌, ◌≤◌, IfOk, length};
 ghost use Rattle.pieces.specs.Pieces.{TakenNext, Taken};
 
 use building::SeriesAnswer;
+pub use outside::{open_argument, print_argument};
 use packing::PackAnswer;
 use refusals::Refusal;
+use std::io;
+use std::io::Read;
+use std::rt::Env;
 
 // Room for all the words of the longest input: 64 leap entries, 2,000 segments of the Sun, 16,000 of the Moon.
 pub fn word_room() -> [i64; 252135]
@@ -20,36 +24,22 @@ pub fn file_room() -> [u8; 16140]
     [0; 16140]
 }
 
-fn print_segment(r: Refusal) {
+fn print_segment(rt: &impl Print, r: Refusal) -> io::Result<()> {
     if r.number < 3 {
-        return;
+        return Ok(());
     }
     if 5 < r.number {
-        return;
+        return Ok(());
     }
-    io::write_all(libc::STDOUT_FILENO, b" ");
-    io::print_decimal(libc::STDOUT_FILENO, r.segment as u64);
+    let segment = r.segment;
+    print!(rt; " {segment}")
 }
 
-pub fn print_refusal(r: Refusal) {
-    io::write_all(libc::STDOUT_FILENO, b"R ");
-    io::print_decimal(libc::STDOUT_FILENO, r.number as u64);
-    print_segment(r);
-    io::write_all(libc::STDOUT_FILENO, b"\n");
-}
-
-// Opens the file that an argument names, and answers a descriptor, or -1.
-pub fn open_argument(i: usize) -> i32 {
-    let mut name = io::buffer();
-    let n = os::arg(i, &mut name);
-    os::open_read(&name[..n])
-}
-
-// Prints an argument.
-pub fn print_argument(i: usize) {
-    let mut text = io::buffer();
-    let n = os::arg(i, &mut text);
-    io::write_all(libc::STDOUT_FILENO, &text[..n]);
+pub fn print_refusal(rt: &impl Print, r: Refusal) -> io::Result<()> {
+    let number = r.number;
+    print!(rt; "R {number}")?;
+    print_segment(rt, r)?;
+    println!(rt)
 }
 
 fn zone_room() -> [u8; 8]
@@ -75,52 +65,54 @@ fn zone_in(text: &[u8]) -> i64 {
 }
 
 // The zone that an argument says; without such an argument it is UTC+8.
-pub fn zone_argument(i: usize) -> i64 {
-    if os::arg_count() <= i {
+pub fn zone_argument(rt: &impl Env, i: usize) -> i64 {
+    if !outside::has_argument(rt, i) {
         return 480;
     }
-    let mut text = io::buffer();
-    let n = os::arg(i, &mut text);
+    let mut text = [0u8; 4096];
+    let n = outside::argument(rt, i, &mut text);
     zone_in(&text[..n])
 }
 
 // Says on standard error whose series is refused; for other refusals nothing.
-pub fn print_series(words: &[i64], bytes: usize, zone: i64) {
+pub fn print_series(rt: &impl Eprint, words: &[i64], bytes: usize, zone: i64) -> io::Result<()> {
     match building::refused_series(words, bytes, zone) {
-        SeriesAnswer::Sun => {
-            io::write_all(libc::STDERR_FILENO, b"the Sun's series\n");
-        }
-        SeriesAnswer::Moon => {
-            io::write_all(libc::STDERR_FILENO, b"the Moon's series\n");
-        }
-        SeriesAnswer::Neither => {}
+        SeriesAnswer::Sun => eprintln!(rt; "the Sun's series"),
+        SeriesAnswer::Moon => eprintln!(rt; "the Moon's series"),
+        SeriesAnswer::Neither => Ok(()),
     }
 }
 
+fn piece_room() -> [u8; 65536]
+    ensures { 65536 ≡ length result }
+{
+    [0; 65536]
+}
+
 // Takes the next piece that is read, and says how many bytes are taken now: fewer than 65,536 more where the input ends.
-fn take_next(fd: i32, taken: usize, words: &mut [i64]) -> usize
+fn take_next<I: Read>(input: &mut I, taken: usize, words: &mut [i64]) -> io::Result<usize>
     requires taken_bound { taken ≤ 2017080 }
     requires words_len { length words.old ≡ 252135 }
-    ensures { TakenNext taken words.old words.new result }
+    ensures { IfOk result (λ bytes. TakenNext taken words.old words.new bytes) }
 {
-    let mut piece = io::large_buffer();
-    let n = io::read_full(fd, &mut piece);
-    pieces::inner::take(&piece[..n], taken, words)
+    let mut piece = piece_room();
+    let n = outside::read_full(input, &mut piece)?;
+    Ok(pieces::inner::take(&piece[..n], taken, words))
 }
 
 // Takes an input piece by piece until it ends, or until it is too long, and says how many bytes it has then. What was read no contract can say; that it was taken
 // one piece after another, each but the last of whole words, this one does.
-pub fn take_all(fd: i32, words: &mut [i64]) -> usize
+pub fn take_all<I: Read>(input: &mut I, words: &mut [i64]) -> io::Result<usize>
     requires { length words.old ≡ 252135 }
-    ensures { Taken words.old words.new result }
+    ensures { IfOk result (λ bytes. Taken words.old words.new bytes) }
 {
     let mut taken = 0;
     while taken <= 2017080 {
         let before = taken;
-        taken = take_next(fd, before, words);
+        taken = take_next(input, before, words)?;
         if taken < before + 65536 {
-            return taken;
+            return Ok(taken);
         }
     }
-    taken
+    Ok(taken)
 }

@@ -1,4 +1,6 @@
 // The named forms, made and run by another crate: a series as one thing, and a lent list of records. Two functions hold them and are walks; all else takes plain values.
+#![tactic(auto)]
+
 ghost use Rattle.std.specs.Prelude.{◌≡◌, replicate};
 ghost use Rattle.refusals.specs.Lent.{written_into};
 ghost use Rattle.series.specs.Series.{series};
@@ -9,6 +11,7 @@ ghost use Rattle.records.specs.Records.{records_into, all_records};
 use marks::CountAnswer;
 use months::Month;
 use series::Body;
+use std::io;
 use times::Second;
 
 // The number of marks, by way of the struct.
@@ -27,46 +30,43 @@ fn listed(year: i64, moons: &[i64], zhongqi: &[i64], rest: Month) -> [Month; 13]
     list
 }
 
-fn print(n: i64) {
-    io::print_decimal(1, whole::absolute(n));
+fn print(rt: &impl Print, n: i64) -> io::Result<()> {
+    let size = whole::absolute(n);
+    print!(rt; "{size}")
 }
 
-fn print_count(answer: CountAnswer) {
+fn print_count(rt: &impl Print, answer: CountAnswer) -> io::Result<()> {
     match answer {
-        CountAnswer::Marks(n) => {
-            io::print_decimal(1, n as u64);
-            io::write_all(1, b" marks\n");
-        }
+        CountAnswer::Marks(n) => println!(rt; "{n} marks"),
         CountAnswer::Refused(r) => {
-            io::write_all(1, b"R ");
-            io::print_decimal(1, r.number as u64);
-            io::write_all(1, b"\n");
+            let number = r.number;
+            println!(rt; "R {number}")
         }
     }
 }
 
 // Handle, first day, length.
-fn print_month(month: Month) {
-    print(month.handle);
-    io::write_all(1, b" ");
-    print(month.first);
-    io::write_all(1, b" ");
-    print(month.length);
-    io::write_all(1, b"\n");
+fn print_month(rt: &impl Print, month: Month) -> io::Result<()> {
+    print(rt, month.handle)?;
+    print!(rt; " ")?;
+    print(rt, month.first)?;
+    print!(rt; " ")?;
+    print(rt, month.length)?;
+    println!(rt)
 }
 
 // Each place of the list.
-fn print_list(list: [Month; 13]) {
+fn print_list(rt: &impl Print, list: [Month; 13]) -> io::Result<()> {
     let mut i: usize = 0;
     while i < 13 {
-        print_month(list[i]);
+        print_month(rt, list[i])?;
         i += 1;
     }
-    io::write_all(1, b"\n");
+    println!(rt)
 }
 
 // Document 01's lists of days, with 13 months and with 12, and a year that is refused; then the Sun of its listing, and that Sun with a coefficient too few.
-fn main() {
+fn main(rt: HostRuntime) -> io::Result<()> {
     let moons: [i64; 15] = [
         0, 30, 59, 89, 118, 148, 177, 207, 236, 266, 295, 325, 354, 384, 413,
     ];
@@ -77,10 +77,10 @@ fn main() {
         first: 8,
         length: 9,
     };
-    print_list(listed(2000, &moons, &thirteen, rest));
-    print_list(listed(2000, &moons, &twelve, rest));
-    print_list(listed(2501, &moons, &twelve, rest));
+    print_list(&rt, listed(2000, &moons, &thirteen, rest))?;
+    print_list(&rt, listed(2000, &moons, &twelve, rest))?;
+    print_list(&rt, listed(2501, &moons, &twelve, rest))?;
     let sun: [i64; 14] = [552960000, 552960000, 0, 0, 0, 0, 0, 0, 0, 0, 0, 0, 0, 0];
-    print_count(counted(Body::Sun, Second(0), &sun));
-    print_count(counted(Body::Sun, Second(0), &sun[..13]));
+    print_count(&rt, counted(Body::Sun, Second(0), &sun))?;
+    print_count(&rt, counted(Body::Sun, Second(0), &sun[..13]))
 }

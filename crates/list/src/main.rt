@@ -1,4 +1,8 @@
 // The listing program (document 01, "The listing program").
-fn main() {
-    list_run::list_from(0);
+#![tactic(auto)]
+
+use std::io;
+
+fn main(rt: HostRuntime) -> io::Result<()> {
+    list_run::list_from(&rt, &mut rt.stdin())
 }

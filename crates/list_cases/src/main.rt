@@ -1,27 +1,27 @@
 // The listing program's own code over each file that is named: many cases in one run, each under its name. No contract can hold what a program
 // prints, so these hold it.
+#![tactic(auto)]
+
+use std::io;
+use std::rt::{Env, Files};
 
 // Lists the file that argument i names.
-fn list_case(i: usize) {
-    let mut name = io::buffer();
-    let n = os::arg(i, &mut name);
-    io::write_all(libc::STDOUT_FILENO, b"# ");
-    io::write_all(libc::STDOUT_FILENO, &name[..n]);
-    io::write_all(libc::STDOUT_FILENO, b"\n");
-    let fd = os::open_read(&name[..n]);
-    if fd < 0 {
-        io::write_all(libc::STDOUT_FILENO, b"cannot be read\n");
-        return;
+fn list_case(rt: &(impl Env + Files + Print), i: usize) -> io::Result<()> {
+    print!(rt; "# ")?;
+    outside::print_argument(rt, i)?;
+    println!(rt)?;
+    match outside::open_argument(rt, i) {
+        Err(_) => println!(rt; "cannot be read"),
+        Ok(mut file) => list_run::list_from(rt, &mut file),
     }
-    list_run::list_from(fd);
-    libc::close(fd);
 }
 
-fn main() {
-    let count = os::arg_count();
-    let mut i = 1;
-    while i < count {
-        list_case(i);
-        i += 1;
+fn main(rt: HostRuntime) -> io::Result<()> {
+    for i in 1..usize::MAX {
+        if !outside::has_argument(&rt, i) {
+            break;
+        }
+        list_case(&rt, i)?;
     }
+    Ok(())
 }

@@ -1,10 +1,20 @@
 // Lists the marks of a cut of real series, 24 segments of the Sun and 96 of the Moon, and prints how many there are and a checksum. What it must
 // print comes from a plain walk over neighbouring seconds (bench/walk.c).
+#![tactic(auto)]
+
 ghost use Rattle.std.specs.Prelude.{◌≡◌, ◌<◌, length};
 
 use marks::ListAnswer;
 use series::Body;
+use std::io;
 use times::Second;
+
+// Room for an input of any length up to 64 KiB.
+fn input_room() -> [u8; 65536]
+    ensures { 65536 ≡ length result }
+{
+    [0; 65536]
+}
 
 fn zeros() -> [i64; 2048]
     ensures { 2048 ≡ length result }
@@ -34,32 +44,29 @@ fn checksum(words: &[i64], n: usize) -> u64 {
     sum
 }
 
-fn report(letter: &[u8], body: Body, start: i64, coefs: &[i64]) {
+fn report(rt: &impl Print, letter: &str, body: Body, start: i64, coefs: &[i64]) -> io::Result<()> {
     let mut out = zeros();
-    io::write_all(1, letter);
+    print!(rt; "{letter} ")?;
     match finder::list_marks(body, Second(start), coefs, &mut out) {
         ListAnswer::Marks(n) => {
-            let marks = n as u64;
-            io::print_decimal(1, marks);
-            io::write_all(1, b" marks, checksum ");
-            io::print_decimal(1, checksum(&out, n));
+            let sum = checksum(&out, n);
+            println!(rt; "{n} marks, checksum {sum}")
         }
         ListAnswer::Refused(r) => {
-            io::write_all(1, b"refused ");
-            io::print_decimal(1, r.number as u64);
+            let number = r.number;
+            println!(rt; "refused {number}")
         }
     }
-    io::write_all(1, b"\n");
 }
 
-fn main() {
-    let mut input = io::large_buffer();
-    let n = io::read_full(0, &mut input);
+fn main(rt: HostRuntime) -> io::Result<()> {
+    let mut input = input_room();
+    let n = outside::read_full(&mut rt.stdin(), &mut input)?;
     if n != 13472 {
-        return;
+        return Ok(());
     }
     let mut words = zeros();
     words::inner::read_words(&input, 1684, &mut words);
-    report(b"S ", Body::Sun, words[1], &words[2..338]);
-    report(b"M ", Body::Moon, words[339], &words[340..1684]);
+    report(&rt, "S", Body::Sun, words[1], &words[2..338])?;
+    report(&rt, "M", Body::Moon, words[339], &words[340..1684])
 }

@@ -4,7 +4,7 @@
 ghost use Rattle.std.specs.Prelude.{◌≤◌, IfOk, length};
 
 use std::env::FillError;
-use std::fs::File;
+use std::fs::{File, OpenOptions};
 use std::io::{Error, ErrorKind, Read};
 use std::rt::{Env, Files};
 use std::{io, str};
@@ -58,5 +58,38 @@ pub fn open_argument<R: Env + Files>(rt: &R, i: usize) -> io::Result<R::File> {
     match str::from_utf8(&text[..n]) {
         Ok(name) => File::open(rt, name),
         Err(_) => Err(Error::from(ErrorKind::InvalidInput)),
+    }
+}
+
+// Whether what the system tells of a descriptor says that it was opened for writing: the last digit of its flags, which are in octal, is 1, or 2 for both.
+fn says_writable(told: &str) -> bool {
+    for line in told.lines() {
+        if line.starts_with("flags:") {
+            return line.ends_with('1') || line.ends_with('2');
+        }
+    }
+    false
+}
+
+// What the system tells of descriptor 3.
+fn third_is_writable<R: Files>(rt: &R) -> io::Result<bool> {
+    let mut told = [0u8; 4096];
+    let mut file = File::open(rt, "/proc/self/fdinfo/3")?;
+    let n = read_full(&mut file, &mut told)?;
+    match str::from_utf8(&told[..n]) {
+        Ok(text) => Ok(says_writable(text)),
+        Err(_) => Ok(false),
+    }
+}
+
+// What descriptor 3 writes to, where whoever started the program opened it for writing; a file gets what is written at its end. It is to be asked before the
+// program opens a file of its own, which would be descriptor 3.
+pub fn open_third<R: Files>(rt: &R) -> Option<R::File> {
+    match third_is_writable(rt) {
+        Ok(true) => OpenOptions::new()
+            .append(true)
+            .open(rt, "/proc/self/fd/3")
+            .ok(),
+        _ => None,
     }
 }

@@ -1,34 +1,38 @@
 // The rebuild program's own code over each zone and three files that are named: many cases in one run, each under its names, with the new file's bytes behind the
 // lines. No contract can hold what a program prints, so these hold it.
+#![tactic(auto)]
+
 ghost use Rattle.std.specs.Prelude.{◌≤◌};
 
 use build_run::inner::{print_argument, zone_argument};
+use std::io;
+use std::rt::{Env, Files};
 
 // Rebuilds in the zone that argument i says, by the three files that the next ones name.
-fn rebuild_case(i: usize)
+fn rebuild_case(rt: &(impl Env + Files + Print + Eprint), i: usize) -> io::Result<()>
     requires { i ≤ 1000 }
 {
-    io::write_all(libc::STDOUT_FILENO, b"# ");
-    print_argument(i);
-    io::write_all(libc::STDOUT_FILENO, b" ");
-    print_argument(i + 1);
-    io::write_all(libc::STDOUT_FILENO, b" ");
-    print_argument(i + 2);
-    io::write_all(libc::STDOUT_FILENO, b" ");
-    print_argument(i + 3);
-    io::write_all(libc::STDOUT_FILENO, b"\n");
-    let zone = zone_argument(i);
-    rebuild_run::rebuild_named(i + 1, i + 2, i + 3, zone, libc::STDOUT_FILENO);
+    print!(rt; "# ")?;
+    print_argument(rt, i)?;
+    print!(rt; " ")?;
+    print_argument(rt, i + 1)?;
+    print!(rt; " ")?;
+    print_argument(rt, i + 2)?;
+    print!(rt; " ")?;
+    print_argument(rt, i + 3)?;
+    println!(rt)?;
+    let zone = zone_argument(rt, i);
+    rebuild_run::rebuild_named(rt, i + 1, i + 2, i + 3, zone, &mut io::writer(rt))
 }
 
-fn main() {
-    let count = os::arg_count();
+fn main(rt: HostRuntime) -> io::Result<()> {
     let mut i = 1;
-    while i < count {
-        if 1000 < i {
-            return;
+    while i <= 1000 {
+        if !outside::has_argument(&rt, i) {
+            return Ok(());
         }
-        rebuild_case(i);
+        rebuild_case(&rt, i)?;
         i += 4;
     }
+    Ok(())
 }

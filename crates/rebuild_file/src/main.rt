@@ -1,5 +1,13 @@
 // The rebuild program: three arguments name the old almanac file, its input and the new input, and a fourth may say the zone in minutes; without it that is UTC+8. The
 // new file's bytes go to descriptor 3, which whoever starts it opens.
-fn main() {
-    rebuild_run::rebuild_named(1, 2, 3, build_run::inner::zone_argument(4), 3);
+#![tactic(auto)]
+
+use std::io;
+
+fn main(rt: HostRuntime) -> io::Result<()> {
+    let zone = build_run::inner::zone_argument(&rt, 4);
+    match outside::open_third(&rt) {
+        Some(mut out) => rebuild_run::rebuild_named(&rt, 1, 2, 3, zone, &mut out),
+        None => rebuild_run::rebuild_named(&rt, 1, 2, 3, zone, &mut io::sink()),
+    }
 }

@@ -1,6 +1,8 @@
 // Rebuilds the almanac of thirty years of real series, the suis 1995 to 2024, by one new thing at a time: what an argument names is the words of a corrected segment (0 for
 // the Sun or 1 for the Moon, the segment's number, 14 coefficients) or of a leap entry (day, offset). Prints whether the new file is the fresh build's, byte for byte, then
 // what the rebuild program prints. At last the old file is damaged. What it must print comes from an independent rebuild (tests/rebuild_cases.py).
+#![tactic(auto)]
+
 ghost use Rattle.std.specs.Prelude.{◌≡◌, length};
 
 use alike::inner::same_bytes;
@@ -12,7 +14,16 @@ use rebuild_run::inner::{print_rebuilt, year_room};
 use refusals::Check;
 use replacing::replace_segment;
 use series::Body;
+use std::io;
+use std::rt::{Env, Files};
 use times::Second;
+
+// Room for a correction of any length up to 4 KiB.
+fn change_bytes() -> [u8; 4096]
+    ensures { 4096 ≡ length result }
+{
+    [0; 4096]
+}
 
 // The words of a correction.
 fn change_words() -> [i64; 16]
@@ -34,7 +45,14 @@ fn copy_words(from: &[i64], to: &mut [i64]) {
 }
 
 // Says whether what is rebuilt is what is built fresh.
-fn print_fresh(old: &[u8], oldwords: &[i64], oldbytes: usize, words: &[i64], bytes: usize) {
+fn print_fresh(
+    rt: &impl Print,
+    old: &[u8],
+    oldwords: &[i64],
+    oldbytes: usize,
+    words: &[i64],
+    bytes: usize,
+) -> io::Result<()> {
     let mut file = file_room();
     let mut years = year_room();
     rebuilding::rebuild_taken(
@@ -43,22 +61,30 @@ fn print_fresh(old: &[u8], oldwords: &[i64], oldbytes: usize, words: &[i64], byt
     let mut fresh = file_room();
     building::build_taken(words, bytes, 480, &mut fresh);
     if !same_bytes(&file, &fresh) {
-        io::write_all(libc::STDOUT_FILENO, b"not ");
+        print!(rt; "not ")?;
     }
-    io::write_all(libc::STDOUT_FILENO, b"as built fresh\n");
+    println!(rt; "as built fresh")
 }
 
-fn print_case(old: &[u8], oldwords: &[i64], oldbytes: usize, words: &[i64], bytes: usize) {
-    print_fresh(old, oldwords, oldbytes, words, bytes);
+fn print_case(
+    rt: &(impl Print + Eprint),
+    old: &[u8],
+    oldwords: &[i64],
+    oldbytes: usize,
+    words: &[i64],
+    bytes: usize,
+) -> io::Result<()> {
+    print_fresh(rt, old, oldwords, oldbytes, words, bytes)?;
     print_rebuilt(
+        rt,
         old,
         oldwords,
         oldbytes,
         words,
         bytes,
         480,
-        libc::STDOUT_FILENO,
-    );
+        &mut io::writer(rt),
+    )
 }
 
 // The coefficients of a corrected segment.
@@ -112,16 +138,20 @@ fn put_entry(change: &[i64], words: &mut [i64])
 }
 
 // Rebuilds by what argument i names.
-fn rebuild_case(i: usize, old: &[u8], oldwords: &[i64])
+fn rebuild_case(
+    rt: &(impl Env + Files + Print + Eprint),
+    i: usize,
+    old: &[u8],
+    oldwords: &[i64],
+) -> io::Result<()>
     requires { length oldwords.now ≡ 252135 }
 {
-    io::write_all(libc::STDOUT_FILENO, b"# ");
-    print_argument(i);
-    io::write_all(libc::STDOUT_FILENO, b"\n");
-    let mut bytes = io::buffer();
-    let fd = open_argument(i);
-    let n = io::read_full(fd, &mut bytes);
-    libc::close(fd);
+    print!(rt; "# ")?;
+    print_argument(rt, i)?;
+    println!(rt)?;
+    let mut bytes = change_bytes();
+    let mut file = open_argument(rt, i)?;
+    let n = outside::read_full(&mut file, &mut bytes)?;
     let mut change = change_words();
     words::inner::read_words(&bytes, 16, &mut change);
     let mut words = word_room();
@@ -129,78 +159,79 @@ fn rebuild_case(i: usize, old: &[u8], oldwords: &[i64])
     if n == 16 {
         make_room(oldwords, &mut words);
         put_entry(&change, &mut words);
-        print_case(old, oldwords, 348376, &words, 348392);
-        return;
+        return print_case(rt, old, oldwords, 348376, &words, 348392);
     }
     let corrected = correct(&change, &mut words);
     if let Check::Refused(r) = corrected {
-        print_refusal(r);
-        return;
+        return print_refusal(rt, r);
     }
-    print_case(old, oldwords, 348376, &words, 348376);
+    print_case(rt, old, oldwords, 348376, &words, 348376)
 }
 
 // The last byte of the old file is one more.
-fn rebuild_damaged(old: &[u8], oldwords: &[i64]) {
-    io::write_all(libc::STDOUT_FILENO, b"# damaged\n");
+fn rebuild_damaged(rt: &(impl Print + Eprint), old: &[u8], oldwords: &[i64]) -> io::Result<()> {
+    println!(rt; "# damaged")?;
     let mut damaged = file_room();
     let n = old.len();
     if 16140 < n {
-        return;
+        return Ok(());
     }
     if n < 1 {
-        return;
+        return Ok(());
     }
-    bytes::copy(old, &mut damaged);
+    damaged[..n].copy_from_slice(old);
     damaged[n - 1] = damaged[n - 1] % 255 + 1;
     print_rebuilt(
+        rt,
         &damaged[..n],
         oldwords,
         348376,
         oldwords,
         348376,
         480,
-        libc::STDOUT_FILENO,
-    );
+        &mut io::writer(rt),
+    )
 }
 
-fn rebuild_all(old: &[u8], oldwords: &[i64])
+fn rebuild_all(
+    rt: &(impl Env + Files + Print + Eprint),
+    old: &[u8],
+    oldwords: &[i64],
+) -> io::Result<()>
     requires { length oldwords.now ≡ 252135 }
 {
-    let count = os::arg_count();
-    let mut i = 2;
-    while i < count {
-        rebuild_case(i, old, oldwords);
-        i += 1;
+    for i in 2..usize::MAX {
+        if !outside::has_argument(rt, i) {
+            break;
+        }
+        rebuild_case(rt, i, old, oldwords)?;
     }
-    rebuild_damaged(old, oldwords);
+    rebuild_damaged(rt, old, oldwords)
 }
 
 // Builds the old file and rebuilds it.
-fn rebuild_built(oldwords: &[i64], bytes: usize)
+fn rebuild_built(
+    rt: &(impl Env + Files + Print + Eprint),
+    oldwords: &[i64],
+    bytes: usize,
+) -> io::Result<()>
     requires { length oldwords.now ≡ 252135 }
 {
     let mut file = file_room();
     let built = building::build_taken(oldwords, bytes, 480, &mut file);
     match built {
-        WriteAnswer::Refused(r) => {
-            print_refusal(r);
-        }
-        WriteAnswer::Written(n) => {
-            rebuild_all(&file[..n], oldwords);
-        }
+        WriteAnswer::Refused(r) => print_refusal(rt, r),
+        WriteAnswer::Written(n) => rebuild_all(rt, &file[..n], oldwords),
     }
 }
 
 // The first argument names the input that the old file is built from.
-fn main() {
-    io::write_all(libc::STDOUT_FILENO, b"# sample\n");
-    let fd = open_argument(1);
-    build_run::build_from(fd, 480);
-    libc::close(fd);
+fn main(rt: HostRuntime) -> io::Result<()> {
+    println!(rt; "# sample")?;
+    let mut input = open_argument(&rt, 1)?;
+    build_run::build_from(&rt, &mut input, 480)?;
     let mut words = word_room();
-    let again = open_argument(1);
-    let bytes = take_all(again, &mut words);
-    libc::close(again);
-    rebuild_built(&words, bytes);
+    let mut again = open_argument(&rt, 1)?;
+    let bytes = take_all(&mut again, &mut words)?;
+    rebuild_built(&rt, &words, bytes)
 }

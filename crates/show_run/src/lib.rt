@@ -1,7 +1,11 @@
-// All of the program that shows an almanac file: from a descriptor, which is standard input there, to standard output.
+// All of the program that shows an almanac file: from an input, which is standard input there, to standard output.
+#![tactic(auto)]
+
 ghost use Rattle.std.specs.Prelude.{◌≡◌, length};
 
 use showing::ShowAnswer;
+use std::io;
+use std::io::Read;
 
 // Room for the largest lawful file, 16,140 bytes, and one byte more, by which a longer one is known.
 fn file_room() -> [u8; 16141]
@@ -18,27 +22,23 @@ fn text_room() -> [u8; 73260]
 }
 
 // Prints R and the number.
-fn print_refusal(number: u8) {
-    io::write_all(libc::STDOUT_FILENO, b"R ");
-    io::print_decimal(libc::STDOUT_FILENO, number as u64);
-    io::write_all(libc::STDOUT_FILENO, b"\n");
+fn print_refusal(rt: &impl Print, number: u8) -> io::Result<()> {
+    println!(rt; "R {number}")
 }
 
 // Prints the text of these bytes.
-fn print_text(file: &[u8]) {
+fn print_text(rt: &impl Print, file: &[u8]) -> io::Result<()> {
     let mut out = text_room();
     let answer = showing::show(file, &mut out);
     match answer {
-        ShowAnswer::Refused(r) => print_refusal(r.number),
-        ShowAnswer::Shown(bytes) => {
-            io::write_all(libc::STDOUT_FILENO, &out[..bytes]);
-        }
+        ShowAnswer::Refused(r) => print_refusal(rt, r.number),
+        ShowAnswer::Shown(bytes) => rt.write_all(&out[..bytes]),
     }
 }
 
-// Shows the file that is read from a descriptor.
-pub fn show_from(fd: i32) {
+// Shows the file that an input is.
+pub fn show_from<I: Read>(rt: &impl Print, input: &mut I) -> io::Result<()> {
     let mut file = file_room();
-    let n = io::read_full(fd, &mut file);
-    print_text(&file[..n]);
+    let n = outside::read_full(input, &mut file)?;
+    print_text(rt, &file[..n])
 }

@@ -1,12 +1,24 @@
 // Prints the months of real suis, from cuts of real series, in UTC+8, in UTC+7 and beyond the last zone, one line a month: year, number, leap mark, handle, first day,
 // length; for a refused sui the year, `R` and the number. No contract can hold what a program prints; what it must print comes from an independent program
 // (tests/sui_real.py).
+#![tactic(auto)]
+
 ghost use Rattle.std.specs.Prelude.{◌≡◌, length};
 
 use dates::DateAnswer;
 use months::{Month, SuiAnswer};
 use refusals::Check;
+use std::io;
+use std::io::Read;
+use std::rt::{Env, Files};
 use times::{Day, Second};
+
+// Room for an input of any length up to 64 KiB.
+fn input_room() -> [u8; 65536]
+    ensures { 65536 ≡ length result }
+{
+    [0; 65536]
+}
 
 // The words of an input: six years, 28 leap entries, start and 37 segments of the Sun, start and 292 of the Moon.
 fn zeros() -> [i64; 4670]
@@ -15,74 +27,68 @@ fn zeros() -> [i64; 4670]
     [0; 4670]
 }
 
-fn print(n: i64) {
-    io::print_decimal(1, whole::absolute(n));
+fn print(rt: &impl Print, n: i64) -> io::Result<()> {
+    let size = whole::absolute(n);
+    print!(rt; "{size}")
 }
 
 // In two digits.
-fn print_two(n: i64) {
+fn print_two(rt: &impl Print, n: i64) -> io::Result<()> {
     if n < 10 {
-        io::write_all(1, b"0");
+        print!(rt; "0")?;
     }
-    print(n);
+    print(rt, n)
 }
 
-fn print_day(day: Day) {
+fn print_day(rt: &impl Print, day: Day) -> io::Result<()> {
     match dates::date_of(day) {
         DateAnswer::Found(date) => {
-            print(date.year);
-            io::write_all(1, b"-");
-            print_two(date.month);
-            io::write_all(1, b"-");
-            print_two(date.day);
+            print(rt, date.year)?;
+            print!(rt; "-")?;
+            print_two(rt, date.month)?;
+            print!(rt; "-")?;
+            print_two(rt, date.day)
         }
-        DateAnswer::Refused(_) => {
-            io::write_all(1, b"no date");
-        }
+        DateAnswer::Refused(_) => print!(rt; "no date"),
     }
 }
 
-fn print_month(year: i64, month: Month) {
+fn print_month(rt: &impl Print, year: i64, month: Month) -> io::Result<()> {
     let handle = whole::absolute(month.handle);
-    print(year);
-    io::write_all(1, b" ");
-    io::print_decimal(1, handle % 32 / 2);
-    io::write_all(1, b" ");
-    io::print_decimal(1, handle % 2);
-    io::write_all(1, b" ");
-    io::print_decimal(1, handle);
-    io::write_all(1, b" ");
-    print_day(Day(month.first));
-    io::write_all(1, b" ");
-    print(month.length);
-    io::write_all(1, b"\n");
+    let number = handle % 32 / 2;
+    let leap = handle % 2;
+    print(rt, year)?;
+    print!(rt; " {number} {leap} {handle} ")?;
+    print_day(rt, Day(month.first))?;
+    print!(rt; " ")?;
+    print(rt, month.length)?;
+    println!(rt)
 }
 
-fn print_sui(year: i64, found: SuiAnswer) {
+fn print_sui(rt: &impl Print, year: i64, found: SuiAnswer) -> io::Result<()> {
     let check = found.check;
     if let Check::Refused(r) = check {
-        print(year);
-        io::write_all(1, b" R ");
-        io::print_decimal(1, r.number as u64);
-        io::write_all(1, b"\n");
-        return;
+        let number = r.number;
+        print(rt, year)?;
+        return println!(rt; " R {number}");
     }
     let sui = found.sui;
     let count = sui.count;
     let mut i: usize = 0;
     while i < 13 {
         if count <= i {
-            return;
+            return Ok(());
         }
-        print_month(year, sui.months[i]);
+        print_month(rt, year, sui.months[i])?;
         i += 1;
     }
+    Ok(())
 }
 
 // The six suis of an input, in a zone.
-fn print_suis(words: &[i64], zone: i64) {
+fn print_suis(rt: &impl Print, words: &[i64], zone: i64) -> io::Result<()> {
     if words.len() != 4670 {
-        return;
+        return Ok(());
     }
     let mut k: usize = 0;
     while k < 6 {
@@ -96,49 +102,50 @@ fn print_suis(words: &[i64], zone: i64) {
             zone,
             year,
         );
-        print_sui(year, found);
+        print_sui(rt, year, found)?;
         k += 1;
     }
+    Ok(())
 }
 
-fn print_zone(words: &[i64], zone: i64) {
-    io::write_all(1, b"zone ");
-    print(zone);
-    io::write_all(1, b"\n");
-    print_suis(words, zone);
+fn print_zone(rt: &impl Print, words: &[i64], zone: i64) -> io::Result<()> {
+    print!(rt; "zone ")?;
+    print(rt, zone)?;
+    println!(rt)?;
+    print_suis(rt, words, zone)
 }
 
-// The suis of the file that argument i names.
-fn print_case(i: usize) {
-    let mut name = io::buffer();
-    let n = os::arg(i, &mut name);
-    io::write_all(1, b"# ");
-    io::write_all(1, &name[..n]);
-    io::write_all(1, b"\n");
-    let fd = os::open_read(&name[..n]);
-    if fd < 0 {
-        io::write_all(1, b"cannot be read\n");
-        return;
-    }
-    let mut input = io::large_buffer();
-    let got = io::read_full(fd, &mut input);
-    libc::close(fd);
+// The suis of an input.
+fn print_input<I: Read>(rt: &impl Print, from: &mut I) -> io::Result<()> {
+    let mut input = input_room();
+    let got = outside::read_full(from, &mut input)?;
     if got != 37360 {
-        io::write_all(1, b"not 4670 words\n");
-        return;
+        return println!(rt; "not 4670 words");
     }
     let mut words = zeros();
     words::inner::read_words(&input, 4670, &mut words);
-    print_zone(&words, 480);
-    print_zone(&words, 420);
-    print_zone(&words, 841);
+    print_zone(rt, &words, 480)?;
+    print_zone(rt, &words, 420)?;
+    print_zone(rt, &words, 841)
 }
 
-fn main() {
-    let count = os::arg_count();
-    let mut i = 1;
-    while i < count {
-        print_case(i);
-        i += 1;
+// The suis of the file that argument i names.
+fn print_case(rt: &(impl Env + Files + Print), i: usize) -> io::Result<()> {
+    print!(rt; "# ")?;
+    outside::print_argument(rt, i)?;
+    println!(rt)?;
+    match outside::open_argument(rt, i) {
+        Err(_) => println!(rt; "cannot be read"),
+        Ok(mut file) => print_input(rt, &mut file),
     }
+}
+
+fn main(rt: HostRuntime) -> io::Result<()> {
+    for i in 1..usize::MAX {
+        if !outside::has_argument(&rt, i) {
+            break;
+        }
+        print_case(&rt, i)?;
+    }
+    Ok(())
 }

@@ -1,13 +1,23 @@
 // Walks a cut of real series, two segments of the Sun and sixteen of the Moon, and lists the same by the finder: with room to spare, exactly enough, and a word less; then
 // series that are refused. Prints what the walk answers, whether the finder answers and leaves the same, and the marks. What it must print comes from another walk
 // (bench/walk.c) and from document 01's table.
+#![tactic(auto)]
+
 ghost use Rattle.std.specs.Prelude.{◌≡◌, ◌≤◌, length};
 
 use alike::inner::same_words;
 use marks::ListAnswer;
 use refusals::Refusal;
 use series::Body;
+use std::io;
 use times::Second;
+
+// Room for an input of any length up to 4 KiB.
+fn input_room() -> [u8; 4096]
+    ensures { 4096 ≡ length result }
+{
+    [0; 4096]
+}
 
 fn zeros() -> [i64; 256]
     ensures { 256 ≡ length result }
@@ -22,29 +32,20 @@ fn sevens() -> [i64; 24]
     [7; 24]
 }
 
-fn print(n: i64) {
-    if n < 0 {
-        io::write_all(1, b"-");
-    }
-    io::print_decimal(1, whole::absolute(n));
+fn print(rt: &impl Print, n: i64) -> io::Result<()> {
+    print!(rt; "{n}")
 }
 
-fn print_refusal(refusal: Refusal) {
-    io::write_all(1, b"refused ");
-    io::print_decimal(1, refusal.number as u64);
-    io::write_all(1, b", segment ");
-    io::print_decimal(1, refusal.segment as u64);
+fn print_refusal(rt: &impl Print, refusal: Refusal) -> io::Result<()> {
+    let number = refusal.number;
+    let segment = refusal.segment;
+    print!(rt; "refused {number}, segment {segment}")
 }
 
-fn print_answer(answer: ListAnswer) {
+fn print_answer(rt: &impl Print, answer: ListAnswer) -> io::Result<()> {
     match answer {
-        ListAnswer::Marks(n) => {
-            io::print_decimal(1, n as u64);
-            io::write_all(1, b" marks");
-        }
-        ListAnswer::Refused(refusal) => {
-            print_refusal(refusal);
-        }
+        ListAnswer::Marks(n) => print!(rt; "{n} marks"),
+        ListAnswer::Refused(refusal) => print_refusal(rt, refusal),
     }
 }
 
@@ -74,67 +75,75 @@ fn same_answer(answer: ListAnswer, other: ListAnswer) -> bool {
 }
 
 // The marks that were written, one a line.
-fn print_marks(words: &[i64]) {
+fn print_marks(rt: &impl Print, words: &[i64]) -> io::Result<()> {
     let places = words.len() / 2;
-    let mut i: usize = 0;
-    while i < places {
+    for i in 0..places {
         let index = words[2 * i];
         if index == 7 {
-            return;
+            return Ok(());
         }
-        print(index);
-        io::write_all(1, b" ");
-        print(words[2 * i + 1]);
-        io::write_all(1, b"\n");
-        i += 1;
+        print(rt, index)?;
+        print!(rt; " ")?;
+        print(rt, words[2 * i + 1])?;
+        println!(rt)?;
     }
+    Ok(())
 }
 
 fn compare(
-    name: &[u8],
+    rt: &impl Print,
+    name: &str,
     body: Body,
     start: i64,
     coefs: &[i64],
     walked: &mut [i64],
     found: &mut [i64],
-) {
+) -> io::Result<()> {
     let by_walk = walk::list_marks(body, Second(start), coefs, walked);
     let by_finder = finder::list_marks(body, Second(start), coefs, found);
-    io::write_all(1, name);
-    print_answer(by_walk);
+    print!(rt; "{name}: ")?;
+    print_answer(rt, by_walk)?;
     if same_answer(by_walk, by_finder) && same_words(walked, found) {
-        io::write_all(1, b", as the finder\n");
+        println!(rt; ", as the finder")?;
     } else {
-        io::write_all(1, b", not as the finder\n");
+        println!(rt; ", not as the finder")?;
     }
-    print_marks(walked);
+    print_marks(rt, walked)
 }
 
-fn in_room(name: &[u8], body: Body, start: i64, coefs: &[i64], room: usize)
+fn in_room(
+    rt: &impl Print,
+    name: &str,
+    body: Body,
+    start: i64,
+    coefs: &[i64],
+    room: usize,
+) -> io::Result<()>
     requires { room ≤ 24 }
 {
     let mut walked = sevens();
     let mut found = sevens();
     compare(
+        rt,
         name,
         body,
         start,
         coefs,
         &mut walked[..room],
         &mut found[..room],
-    );
+    )
 }
 
-fn sun_cases(start: i64, coefs: &[i64]) {
-    in_room(b"S, 24 words: ", Body::Sun, start, coefs, 24);
-    in_room(b"S, 8 words: ", Body::Sun, start, coefs, 8);
-    in_room(b"S, 7 words: ", Body::Sun, start, coefs, 7);
+fn sun_cases(rt: &impl Print, start: i64, coefs: &[i64]) -> io::Result<()> {
+    in_room(rt, "S, 24 words", Body::Sun, start, coefs, 24)?;
+    in_room(rt, "S, 8 words", Body::Sun, start, coefs, 8)?;
+    in_room(rt, "S, 7 words", Body::Sun, start, coefs, 7)
 }
 
-fn moon_cases(start: i64, coefs: &[i64]) {
-    in_room(b"M, 24 words: ", Body::Moon, start, coefs, 24);
-    in_room(b"M, 18 words: ", Body::Moon, start, coefs, 18);
-    in_room(b"M, 17 words: ", Body::Moon, start, coefs, 17);
+fn moon_cases(rt: &impl Print, start: i64, coefs: &[i64]) -> io::Result<()> {
+    in_room(rt, "M, 24 words", Body::Moon, start, coefs, 24)?;
+    in_room(rt, "M, 18 words", Body::Moon, start, coefs, 18)?;
+    in_room(rt, "M, 17 words", Body::Moon, start, coefs, 17)
 }
 
 fn spoil(coefs: &mut [i64], at: usize, word: i64) {
@@ -144,27 +153,27 @@ fn spoil(coefs: &mut [i64], at: usize, word: i64) {
 }
 
 // One thing more is wrong from case to case, and the lower number wins.
-fn refused_cases(start: i64, coefs: &mut [i64]) {
+fn refused_cases(rt: &impl Print, start: i64, coefs: &mut [i64]) -> io::Result<()> {
     spoil(coefs, 14, 0);
-    in_room(b"S, a joint apart: ", Body::Sun, start, coefs, 0);
+    in_room(rt, "S, a joint apart", Body::Sun, start, coefs, 0)?;
     spoil(coefs, 15, 0);
-    in_room(b"S, at rest: ", Body::Sun, start, coefs, 0);
+    in_room(rt, "S, at rest", Body::Sun, start, coefs, 0)?;
     spoil(coefs, 16, 4000000001);
-    in_room(b"S, out of range: ", Body::Sun, start, coefs, 0);
+    in_room(rt, "S, out of range", Body::Sun, start, coefs, 0)
 }
 
-fn main() {
-    let mut input = io::buffer();
-    let n = io::read_full(0, &mut input);
+fn main(rt: HostRuntime) -> io::Result<()> {
+    let mut input = input_room();
+    let n = outside::read_full(&mut rt.stdin(), &mut input)?;
     if n != 2048 {
-        return;
+        return Ok(());
     }
     let mut words = zeros();
     words::inner::read_words(&input, 256, &mut words);
     let sun = words[1];
     let moon = words[31];
-    sun_cases(sun, &words[2..30]);
-    moon_cases(moon, &words[32..256]);
-    in_room(b"S, a word short: ", Body::Sun, sun, &words[2..29], 0);
-    refused_cases(sun, &mut words[2..30]);
+    sun_cases(&rt, sun, &words[2..30])?;
+    moon_cases(&rt, moon, &words[32..256])?;
+    in_room(&rt, "S, a word short", Body::Sun, sun, &words[2..29], 0)?;
+    refused_cases(&rt, sun, &mut words[2..30])
 }

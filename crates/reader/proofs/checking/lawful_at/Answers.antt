@@ -8,11 +8,8 @@ use Rattle.reader.proofs.checking.lawful_at.Goals as goal
 use Rattle.reader.proofs.checking.lawful_at.Goals.{After-leap_lawful, After-read_entries, Start}
 
 -- the leap table that was read is the file's
-abbrev start_of : After-leap_lawful → Start
-start_of c = c.before.before.before.before.before.before.before.before.before.before
-
-judged : (c : After-leap_lawful) → (let a = (start_of c).args in c.leap_lawful.result ≡ leap_lawful (content_at a.file.now a.n).leap)
-judged c = let a = (start_of c).args in c.leap_lawful.ensures ∙ ap leap_lawful (leap_read a.file.now a.n _ _ c.read_entries.ensures)
+judged : (c : After-leap_lawful) → (let a = c.args in c.leap_lawful.result ≡ leap_lawful (content_at a.file.now a.n).leap)
+judged c = let a = c.args in c.leap_lawful.ensures ∙ ap leap_lawful (leap_read a.file.now a.n _ _ c.read_entries.ensures)
 
 pub returns-then-n-gt64 : goal.returns-then-n-gt64
 returns-then-n-gt64 c = let a = c.args in too_many_entries a.file.now a.n c.if-n-gt64.true
@@ -30,10 +27,10 @@ slice_bounds-leap_lawful-end c =
 
 pub returns-then-not-leap_lawful : goal.returns-then-not-leap_lawful
 returns-then-not-leap_lawful c =
-    let a = (start_of c.before.before).args in
-    table_broken a.file.now a.n (sym (judged (goal.at.returns-then-not-leap_lawful c).After-leap_lawful) ∙ c.if-not-leap_lawful.true
+    let a = c.args in
+    table_broken a.file.now a.n (sym (judged (goal.at.returns-then-not-leap_lawful c).After-leap_lawful) ∙ c.if-not-leap_lawful.true)
 
 pub returns : goal.returns
 returns c =
-    let a = (start_of c.before.before.before).args in
-    c.suis_at.ensures ∙ suis_decide_file a.file.now a.n c.if-n-lt1.left c.if-n-gt128.left (sym (judged (goal.at.returns c).After-leap_lawful) ∙ c.if-not-leap_lawful.false
+    let a = c.args in
+    c.suis_at.ensures ∙ suis_decide_file a.file.now a.n c.if-n-lt1.false c.if-n-gt128.false (sym (judged (goal.at.returns c).After-leap_lawful) ∙ c.if-not-leap_lawful.false)

@@ -1,6 +1,6 @@
 -- `reader::checking::months_at` meets its contract. Assumes nothing.
-use Prim.Native.Nat.{ℕ, ◌+◌, ◌*◌, ◌-◌, ◌≤◌, ◌<◌}
-use Rattle.content.specs.theory.Walk.{MonthsSoFar, no_month_yet, month_next, month_stops, leaps_decide}
+use Prim.Native.Nat.{◌-◌}
+use Rattle.content.specs.theory.Walk.{MonthsSoFar}
 use Rattle.almanac.specs.Layout.{content_at}
 use Rattle.reader.proofs.checking.months_at.Given as goal
 

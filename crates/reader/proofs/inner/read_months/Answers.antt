@@ -1,8 +1,8 @@
 -- `reader::inner::read_months` meets its contract. Assumes nothing.
 use mathlib.Core.Path.{◌≡◌, refl, ◌∙◌}
-use Prim.Native.Nat.{◌+◌, ◌*◌, ◌-◌, ◌≤◌}
+use Prim.Native.Nat.{◌+◌, ◌*◌, ◌≤◌}
 use native.Mathlib.Omega.{arith}
-use lib.ListN.{length, drop, length-set}
+use lib.ListN.{length, length-set}
 use Rattle.whole.specs.Ranges.{back}
 use Rattle.almanac.specs.Fields.{times, widths, numbers_in}
 use Rattle.almanac.specs.Layout.{month_fields}
@@ -23,8 +23,8 @@ pub loop-i-preserved : goal.loop-i-preserved
 unfolding numbers_in widths
 loop-i-preserved c =
     let i = c.loop-i.i in
-    let first = c.unsigned4-at in
-    let second = c.signed4-at in
+    let first = c.unsigned4_at in
+    let second = c.signed4_at in
     let third = c.byte_at in
     let room : 3 * i + 3 ≤ length c.loop-i.out = omega (arith, c.loop-i.invariant.1.0, c.loop-i-test.true, c.requires.n_in_bounds_2) in
     let eight : c.args.at + 9 * i + 4 + 4 ≡ c.args.at + 9 * i + 8 = omega arith in (

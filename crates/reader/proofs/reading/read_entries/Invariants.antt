@@ -1,9 +1,9 @@
 -- `reader::reading::read_entries` meets its contract. Assumes nothing.
-use mathlib.Core.Path.{◌≡◌, refl, ◌∙◌}
+use mathlib.Core.Path.{◌≡◌}
 use mathlib.Core.List.{◌++◌}
-use Prim.Native.Nat.{◌+◌, ◌*◌, ◌-◌, ◌≤◌}
-use lib.ListN.{length, drop, length-set}
-use Rattle.almanac.specs.Fields.{times, widths, numbers_in}
+use Prim.Native.Nat.{◌*◌, ◌-◌, ◌≤◌}
+use lib.ListN.{length, drop}
+use Rattle.almanac.specs.Fields.{times, numbers_in}
 use Rattle.almanac.specs.Layout.{entry_fields}
 use Rattle.reader.proofs.reading.read_entries.Given as goal
 

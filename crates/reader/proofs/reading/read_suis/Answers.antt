@@ -1,8 +1,8 @@
 -- `reader::reading::read_suis` meets its contract. Assumes nothing.
 use mathlib.Core.Path.{◌≡◌, refl, ◌∙◌}
-use Prim.Native.Nat.{◌+◌, ◌*◌, ◌-◌, ◌≤◌}
+use Prim.Native.Nat.{◌+◌, ◌*◌, ◌≤◌}
 use native.Mathlib.Omega.{arith}
-use lib.ListN.{length, drop, length-set}
+use lib.ListN.{length, length-set}
 use Rattle.whole.specs.Ranges.{back}
 use Rattle.almanac.specs.Fields.{times, widths, numbers_in}
 use Rattle.almanac.specs.Layout.{sui_fields}
@@ -20,7 +20,7 @@ pub loop-i-preserved : goal.loop-i-preserved
 unfolding numbers_in widths
 loop-i-preserved c =
     let i = c.loop-i.i in
-    let first = c.signed4-at in
+    let first = c.signed4_at in
     let second = c.byte_at in
     let room : 2 * i + 2 ≤ length c.loop-i.out = omega (arith, c.loop-i.invariant.1.0, c.loop-i-test.true, c.requires.n_in_bounds_2) in (
       omega (arith, c.loop-i-test.true),

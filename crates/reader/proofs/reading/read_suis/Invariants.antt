@@ -1,9 +1,9 @@
 -- `reader::reading::read_suis` meets its contract. Assumes nothing.
-use mathlib.Core.Path.{◌≡◌, refl, ◌∙◌}
+use mathlib.Core.Path.{◌≡◌}
 use mathlib.Core.List.{◌++◌}
-use Prim.Native.Nat.{◌+◌, ◌*◌, ◌-◌, ◌≤◌}
-use lib.ListN.{length, drop, length-set}
-use Rattle.almanac.specs.Fields.{times, widths, numbers_in}
+use Prim.Native.Nat.{◌*◌, ◌-◌, ◌≤◌}
+use lib.ListN.{length, drop}
+use Rattle.almanac.specs.Fields.{times, numbers_in}
 use Rattle.almanac.specs.Layout.{sui_fields}
 use Rattle.reader.proofs.reading.read_suis.Given as goal
 
