@@ -1,8 +1,8 @@
 -- `walk::count` meets its contract. The invariant: the marks counted so far and those of the rest are all (`Counted`); the measure is the seconds that are left. In the
 -- needs, `start` is the function's entry, `loop` the loop's head and `turn` a turn's beginning. Assumes nothing.
 use Rattle.whole.specs.Distance.{distance_from}
-use Rattle.series.specs.Series.{Series, series, last_second}
-use Rattle.walk.specs.theory.Turns.{Counted, counted_none, next_in_span, falls, counted_more, counted_same, counted_all, marks_few}
+use Rattle.series.specs.Series.{series}
+use Rattle.walk.specs.theory.Turns.{Counted}
 use Rattle.walk.proofs.count.Given as goal
 
 abbrev pub invariant-loop-before : goal.invariant-loop-before
