@@ -1,13 +1,12 @@
 -- `kept_years::lines::is_among` meets its contract, and ends: the years that are left are fewer at each turn. Assumes nothing.
 use mathlib.Core.Path.{◌≡◌, refl, sym, ◌∙◌}
 use mathlib.Core.Bool.{true, false}
-use Prim.Native.Nat.{◌-◌, ◌≤◌}
 use lib.IntN.{pos}
 use borrow.Author.Rules.{rules}
 use native.Mathlib.Omega.{arith}
-use lib.ListN.{length, get_or, drop}
+use lib.ListN.{get_or}
 use mir.Syntax.{w64}
-use mir.Val.{to_z, SFits}
+use mir.Val.{SFits}
 use mir.Facts.{to_z-of_z}
 use Rattle.whole.specs.Tests.{is_exactly}
 use Rattle.kept_years.specs.theory.Among.{among_here, among_turn, among_end}

@@ -1,7 +1,7 @@
 -- `kept_years::lines::is_among` meets its contract, and ends: the years that are left are fewer at each turn. Assumes nothing.
-use mathlib.Core.Path.{◌≡◌, refl, sym, ◌∙◌}
+use mathlib.Core.Path.{◌≡◌}
 use Prim.Native.Nat.{◌-◌, ◌≤◌}
-use lib.ListN.{length, get_or, drop}
+use lib.ListN.{length, drop}
 use Rattle.kept_years.specs.KeptYears.{is_among}
 use Rattle.kept_years.proofs.lines.is_among.Given as goal
 

@@ -1,10 +1,10 @@
 -- `kept_years::putting::put_lines` meets its contract, and ends: the suis that are left are fewer at each turn. Assumes nothing.
-use mathlib.Core.Path.{◌≡◌, refl, ap, ◌∙◌}
-use Prim.Native.Nat.{ℕ, ◌-◌, ◌≤◌}
+use mathlib.Core.Path.{◌≡◌}
+use Prim.Native.Nat.{◌-◌, ◌≤◌}
 use lib.ListN.{length}
 use Rattle.whole.specs.Lists.{placed}
 use Rattle.almanac.specs.Layout.{content_at}
-use Rattle.kept_years.specs.KeptYears.{line, lines}
+use Rattle.kept_years.specs.KeptYears.{lines}
 use Rattle.kept_years.proofs.putting.put_lines.Given as goal
 
 abbrev pub invariant-loop-i : goal.invariant-loop-i
