@@ -1,4 +1,6 @@
 // The almanac file, written (document 01, "Almanac file").
+#![tactic(auto)]
+
 ghost use Rattle.std.specs.Prelude.{◌≡◌, length};
 ghost use Rattle.refusals.specs.Lent.{written_into};
 ghost use Rattle.content.specs.Content.{content};
