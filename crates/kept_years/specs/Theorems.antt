@@ -1,6 +1,6 @@
 -- A sui's line says `kept` exactly where its year stands among those that were kept (`kept_says`, `says_kept`); every year of a lawful file has the four digits that its
 -- line shows (`four_digits`), and the lines of no lawful file are longer than 1,280 bytes (`lines_size`). Assumes nothing but what a statement says itself.
-use Rattle.std.specs.Prelude.{◌≡◌, refl, Bool, true, false, ◌||◌, List, [], ◌∷◌, ℕ, zero, suc, ◌*◌, ◌≤◌, ◌<◌, ℤ, pos, nat_abs, length, get_or}
+use Rattle.std.specs.Prelude.{◌≡◌, refl, Bool, true, false, ◌||◌, List, [], ◌∷◌, ℕ, zero, suc, ◌≤◌, ◌<◌, ℤ, pos, nat_abs, length, get_or}
 use Rattle.std.proofs.Common.{sym, arith}
 use Rattle.whole.specs.Parts.{◌⩽◌, ℤ_rules}
 use Rattle.whole.specs.Laws.{abs_of_nonneg}

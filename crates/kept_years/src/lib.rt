@@ -1,4 +1,6 @@
 // Which suis of an almanac file a rebuild kept, as text: a line for each sui, its year and `kept` or `made`.
+#![tactic(auto)]
+
 ghost use Rattle.std.specs.Prelude.{◌≡◌, length};
 ghost use Rattle.refusals.specs.Lent.{written_into};
 ghost use Rattle.almanac.specs.Answers.{paper_written, bytes_counted, all_bytes};

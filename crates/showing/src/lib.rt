@@ -1,4 +1,6 @@
 // An almanac file as text for people: a header and a line for each month.
+#![tactic(auto)]
+
 ghost use Rattle.std.specs.Prelude.{◌≡◌, length};
 ghost use Rattle.refusals.specs.Lent.{written_into};
 ghost use Rattle.showing.specs.Answers.{paper_shown, text_shown, all_bytes, shown};

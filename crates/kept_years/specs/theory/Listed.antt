@@ -21,7 +21,7 @@ module _ (file : List ℕ) (years : List ℤ) (out : List ℕ) where
   unfolding checked_file lines_listed
   not_listed e = rw (refused_as (file_of file) e) (refl, refl)
 
-  pub is_listed : (n : Counts) → Checked file n → lines_listed file years (length out) ≡ lines_into (lines (content_at file n).suis years n.suis) (length out)
+  pub is_listed_lem : (n : Counts) → Checked file n → lines_listed file years (length out) ≡ lines_into (lines (content_at file n).suis years n.suis) (length out)
   unfolding lines_listed lines_of
   is_listed_lem n k = rw (k.is, sui_count_lem file n)
 

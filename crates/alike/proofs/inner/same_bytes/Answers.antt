@@ -1,10 +1,9 @@
 -- `alike::inner::same_bytes` meets its contract: the bits in which the first i bytes differ are gathered. Assumes nothing.
-use mathlib.Core.Path.{◌≡◌, refl, sym, ap, ◌∙◌}
-use Prim.Native.Nat.{◌-◌, ◌≤◌}
+use mathlib.Core.Path.{refl, sym, ap, ◌∙◌}
 use native.Mathlib.Omega.{arith}
 use lib.ListN.{length}
 use Rattle.alike.specs.Alike.{bytes_alike, bytes_unlike}
-use Rattle.alike.specs.theory.Bits.{Gathered, none_yet, one_more, all_tell}
+use Rattle.alike.specs.theory.Bits.{none_yet, one_more, all_tell}
 use Rattle.alike.proofs.inner.same_bytes.Goals as goal
 
 pub returns-then-b-n : goal.returns-then-b-n

@@ -1,8 +1,8 @@
 -- `alike::inner::same_bytes` meets its contract: the bits in which the first i bytes differ are gathered. Assumes nothing.
-use mathlib.Core.Path.{◌≡◌, refl, sym, ap, ◌∙◌}
+use mathlib.Core.Path.{◌≡◌}
 use Prim.Native.Nat.{◌-◌, ◌≤◌}
 use lib.ListN.{length}
-use Rattle.alike.specs.theory.Bits.{Gathered, none_yet, one_more, all_tell}
+use Rattle.alike.specs.theory.Bits.{Gathered}
 use Rattle.alike.proofs.inner.same_bytes.Given as goal
 
 abbrev pub invariant-loop-i : goal.invariant-loop-i

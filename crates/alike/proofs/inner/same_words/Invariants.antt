@@ -1,12 +1,9 @@
 -- `alike::inner::same_words` meets its contract: first the runs that are the same, then the bits in which the first i words differ are gathered. Assumes nothing.
-use mathlib.Core.Path.{◌≡◌, refl, sym, ap, ◌∙◌}
-use Prim.Native.Nat.{◌-◌, ◌≤◌}
+use mathlib.Core.Path.{◌≡◌}
+use Prim.Native.Nat.{ℕ, ◌-◌, ◌≤◌, ◌<◌}
 use lib.IntN.{pos}
-use lib.ListN.{length}
-use mir.Syntax.{w64}
-use mir.Val.{of_z}
-use Rattle.alike.specs.Runs.{AllBefore, run_more}
-use Rattle.alike.specs.theory.Bits.{Gathered, all_before, one_more, all_tell}
+use lib.ListN.{length, get_or}
+use Rattle.alike.specs.Runs.{AllBefore}
 use Rattle.alike.proofs.inner.same_words.Given as goal
 
 abbrev pub invariant-loop-i : goal.invariant-loop-i
@@ -16,7 +13,7 @@ abbrev pub decreases-loop-i : goal.decreases-loop-i
 decreases-loop-i l = l.n - l.i
 
 abbrev pub invariant-loop-i-2 : goal.invariant-loop-i-2
-invariant-loop-i-2 l = (l.n ≡ length l.a) × ((l.n ≡ length l.b) × ((l.i ≤ l.n) × Gathered (of_z w64) (pos 0) l.a l.b l.i (of_z w64 l.differing)))
+invariant-loop-i-2 l = (l.n ≡ length l.a) × ((l.n ≡ length l.b) × ((l.i ≤ l.n) × ((l.differing ≡ pos 0 → (i : ℕ) → i < l.i → get_or l.a i (pos 0) ≡ get_or l.b i (pos 0)) × (l.a ≡ l.b → l.differing ≡ pos 0))))
 
 abbrev pub decreases-loop-i-2 : goal.decreases-loop-i-2
 decreases-loop-i-2 l = l.n - l.i
