@@ -233,9 +233,15 @@ class Function:
                 return name + rest
             while TOLD.search(self.places.get(q, "")) and self.parent.get(q):
                 q = self.parent[q]
-            return name + ".before" * steps(env[name], q)
+            return name + ".before" * steps(env[name] if goal else self.standing(env[name]), q)
 
         return re.sub(r"(?<![\w.'₀-])([A-Za-z_][\w'-]*)((?:\.before(?![\w'-]))*)((?:\.[^\s(){}.;,]+)*)(?![\w'])(?! :)", one, text)
+
+    def standing(self, n):
+        """A place that holds something: one at which Rattle was told of a value only is none."""
+        while n and TOLD.search(self.places.get(n, "")) and self.parent.get(n):
+            n = self.parent[n]
+        return n
 
     def binders(self, text):
         """The variables of a declaration that stand for places."""
@@ -246,6 +252,11 @@ class Function:
         for m in re.finditer(r"\(([^\s(){}:]+) : (?:lts|tie)\.([^\s(){}.;,]+)", text):
             if norm(m.group(2)) in self.places:
                 env[m.group(1)] = norm(m.group(2))
+        for m in re.finditer(r"^(?:abbrev |pub )*([^\s(){}:]+) : (?:(?:lts|tie)\.)?([^\s(){}.;,]+)[^→\n]*→", text, re.M):
+            place = norm(m.group(2)) if norm(m.group(2)) in self.places else self.short.get(m.group(2))
+            clause = re.search(r"^" + re.escape(m.group(1)) + r" ([A-Za-z][\w']*)", text, re.M)
+            if place and clause:
+                env[clause.group(1)] = place
         for m in re.finditer(r"^\s+(?:abbrev |pub )*([^\s(){}:]+) : (?:lts|tie)\.([^\s(){}.;,]+)", text, re.M):
             if norm(m.group(2)) in self.places:
                 env[m.group(1)] = norm(m.group(2))
@@ -284,7 +295,7 @@ class Function:
                 return OWN[n]
             if n in self.args:
                 return self.args[n]
-            if n in self.steps and (text[m.end() : m.end() + 1] == "." or n.startswith(("loop", "if"))):
+            if n in self.steps and (text[m.end() : m.end() + 1] == "." or n.startswith(("loop", "if")) or re.search(r"let [^\s(){}]+ = (?:[^\s(){};,]+\.)$", text[:i])):
                 return self.steps[n]
             return w
 

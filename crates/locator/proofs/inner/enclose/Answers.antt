@@ -45,7 +45,7 @@ abbrev start_of : Valued → Start
 start_of c = c.before.before.before.before
 
 abbrev at_of : Valued → ℤ
-at_of c = c.before.before.second_for-near.result.at
+at_of c = c.second_for-near.result.at
 
 at_at : (c : Valued) → to_z w64 (of_z w64 (at_of c)) ≡ at_of c
 at_at c = back (at_of c) c.struct_told-1.given.0.1
@@ -75,14 +75,14 @@ abbrev Ended : Type 0
 Ended = After-last_second-last
 
 abbrev valued_of : Ended → Valued
-valued_of c = c.before.before.before.before.before
+valued_of c = c.before.before.before.before
 
-at_last : (c : Ended) → to_z w64 (of_z w64 c.last_second-last.result.0) ≡ last_second (series-of (start_of (valued_of c.before)))
+at_last : (c : Ended) → to_z w64 (of_z w64 c.last_second-last.result.0) ≡ last_second (series-of (start_of (valued_of c)))
 at_last c = back c.last_second-last.result.0 (omega arith) ∙ c.last_second-last.ensures
 
-under : (c : Ended) → (let valued = valued_of c.before in let start = start_of valued in value_at (series-of start) (at_of valued) ≺ target-of start)
+under : (c : Ended) → (let valued = valued_of c in let start = start_of valued in value_at (series-of start) (at_of valued) ≺ target-of start)
 under c =
-    let valued = valued_of c.before in
+    let valued = valued_of c in
     let start = start_of valued in
     le_no {a = target-of start} {b = value_at (series-of start) (at_of valued)} (rw (at_target valued.before.before.before, at_value valued) at c.if-target-value.false)
 

@@ -1,7 +1,6 @@
 -- `locator::inner::locate_between` meets its contract. The invariant: the mark lies between `from` and `to` (`Bracket`), which are `left` seconds apart; that is the
 -- measure. In the needs, `start` is the function's entry, and `loop` the loop's head. Assumes nothing.
 use mathlib.Core.Path.{◌≡◌, refl, ◌∙◌}
-use mathlib.Core.Logic.{⊎_elim}
 use Prim.Native.Nat.{◌<◌}
 use native.Mathlib.Omega.{arith}
 use lib.IntN.{ℤ, pos, ◌+ℤ◌, ◌*ℤ◌}
@@ -22,22 +21,22 @@ use Rattle.finder.proofs.Halves.{Inside}
 use Rattle.locator.proofs.Bracket.{inside_at, upper, lower, upper_falls, lower_falls, found, part_of_lem, values_near, seconds_few}
 use Rattle.locator.proofs.Around.{inside_in_span}
 use Rattle.locator.proofs.inner.locate_between.Goals as goal
-use Rattle.locator.proofs.inner.locate_between.Goals.{After-add-middle, After-mark_value-target, After-seconds_on-step, After-value-value, At-loop-left, Joined-value-target}
+use Rattle.locator.proofs.inner.locate_between.Goals.{then-value-target, else-value-target, After-add-middle, After-mark_value-target, After-seconds_on-step, After-value-value, At-loop-left, Joined-value-target}
 
 at_target : (c : After-mark_value-target) → (to_z w64 (of_z w64 c.mark_value-target.result) ≡ c.args.index *ℤ pos (numbers c.args.body).mark_size)
 at_target c = back c.mark_value-target.result c.mark_value-target.type_inv ∙ (rw (to_z-of_z c.ranges.index) at c.mark_value-target.ensures)
 
 fits_lo : (c : After-mark_value-target) → SFits w64 c.args.lo.0
-fits_lo c = fits_of c.args.lo.0 c.struct_told-1.given.0.1
+fits_lo c = fits_of c.args.lo.0 (omega arith)
 
 fits_hi : (c : After-mark_value-target) → SFits w64 c.args.hi.0
-fits_hi c = fits_of c.args.hi.0 c.struct_told-2-1.given.0.1
+fits_hi c = fits_of c.args.hi.0 (omega arith)
 
 abbrev series_of : At-loop-left → Series
-series_of c = let start = c.before.before.before.before.before in series start.args.body start.args.start.0 start.args.coefs.now
+series_of c = series c.args.body c.args.start.0 c.args.coefs.now
 
 abbrev index_of : At-loop-left → ℤ
-index_of c = c.before.before.before.before.before.args.index
+index_of c = c.args.index
 
 at_accepted : (c : At-loop-left) → Accepted (series_of c)
 at_accepted c = c.requires.accepted
@@ -85,14 +84,14 @@ at_next c =
     let at = at_value c.before in
     let middle = back c.add-middle.result c.add-middle.type_inv in
     let value = back c.value-value.result c.value-value.type_inv in
-    ⊎_elim
-    (λ w.
-    rw (w.1, w.2, w.3, w.4, middle, value)
-    (upper b i at (lt_yes (rw (value, at_mark c.before.before.before.before.before.before.before.before) at w.0.taken)), upper_falls b i at))
-    (λ w.
-    rw (w.1, w.2, w.3, w.4, middle, value)
-    (lower b i at (lt_no (rw (value, at_mark c.before.before.before.before.before.before.before.before) at w.0.left)), lower_falls b i at))
-    c.if-value-target.branch
+    elim c.if-value-target.branch [
+      | then-value-target w ↦
+          rw (w.from-is, w.to-is, w.under-is, w.over-is, middle, value)
+          (upper b i at (lt_yes (rw (value, at_mark c.before.before.before.before.before.before.before.before) at w.if-value-target.true)), upper_falls b i at)
+      | else-value-target w ↦
+          rw (w.from-is, w.to-is, w.under-is, w.over-is, middle, value)
+          (lower b i at (lt_no (rw (value, at_mark c.before.before.before.before.before.before.before.before) at w.if-value-target.false)), lower_falls b i at)
+    ]
 
 pub mark_value-target-requires : goal.mark_value-target-requires
 mark_value-target-requires c = rw (to_z-of_z c.ranges.index) (between_fits c.ranges.below c.ranges.above (<→≤ c.requires.bracket_of.under) c.requires.bracket_of.reaching)

@@ -1,8 +1,8 @@
 -- `locator::inner::locate_between` meets its contract. The invariant: the mark lies between `from` and `to` (`Bracket`), which are `left` seconds apart; that is the
 -- measure. In the needs, `start` is the function's entry, and `loop` the loop's head. Assumes nothing.
-use mathlib.Core.Path.{◌≡◌, refl, ◌∙◌}
-use Rattle.whole.specs.Distance.{distance_from, between_fits}
-use Rattle.series.specs.Series.{Series, series, InSpan, value_at}
+use mathlib.Core.Path.{◌≡◌}
+use Rattle.whole.specs.Distance.{distance_from}
+use Rattle.series.specs.Series.{series}
 use Rattle.marks.specs.Stretch.{BracketOf}
 use Rattle.locator.proofs.inner.locate_between.Given as goal
 

@@ -15,7 +15,7 @@ use Rattle.locator.proofs.inner.settle.Goals as goal
 use Rattle.locator.proofs.inner.settle.Goals.{Start}
 
 abbrev series_of : Start → Series
-series_of c = let start = c.before.before in series start.args.body start.args.start.0 start.args.coefs.now
+series_of c = series c.args.body c.args.start.0 c.args.coefs.now
 
 at_lo : (c : Start) → to_z w64 (of_z w64 c.args.around.lo) ≡ c.args.around.lo
 at_lo c = back c.args.around.lo (omega arith)

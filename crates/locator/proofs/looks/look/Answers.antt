@@ -25,7 +25,7 @@ at_hi : (c : lts.Start tie.the-claims reads.Pre reads.Post tie.handed_clauses) �
 at_hi c = back c.args.around.hi (omega arith)
 
 abbrev series_of : lts.Else2 tie.the-claims reads.Pre reads.Post tie.handed_clauses → Series
-series_of c = let start = c.before.before.before.before in series start.args.body start.args.start.0 start.args.coefs.now
+series_of c = series c.args.body c.args.start.0 c.args.coefs.now
 
 at_inside : (c : lts.Else2 tie.the-claims reads.Pre reads.Post tie.handed_clauses) → (Inside c.args.around.lo c.args.around.hi c.args.at)
 at_inside c =

@@ -17,18 +17,18 @@ use Rattle.locator.proofs.looks.second_for.Goals as goal
 use Rattle.locator.proofs.looks.second_for.Goals.{After-last_second-last}
 
 abbrev series_of : After-last_second-last → Series
-series_of c = let start = c.before.before.before in series start.args.body start.args.start.0 start.args.coefs.now
+series_of c = series c.args.body c.args.start.0 c.args.coefs.now
 
-at_facts : (c : After-last_second-last) → Facts (series_of c.before)
-at_facts c = facts (series_of c.before) c.requires.accepted
+at_facts : (c : After-last_second-last) → Facts (series_of c)
+at_facts c = facts (series_of c) c.requires.accepted
 
 at_segments : (c : After-last_second-last) → Searched c.args.coefs.now
-at_segments c = searched (series_of c.before) c.requires.accepted
+at_segments c = searched (series_of c) c.requires.accepted
 
 at_first : (c : After-last_second-last) → to_z w64 (of_z w64 c.args.start.0) ≡ c.args.start.0
 at_first c = back c.args.start.0 (omega arith)
 
-at_last : (c : After-last_second-last) → to_z w64 (of_z w64 c.last_second-last.result.0) ≡ last_second (series_of c.before)
+at_last : (c : After-last_second-last) → to_z w64 (of_z w64 c.last_second-last.result.0) ≡ last_second (series_of c)
 at_last c = back c.last_second-last.result.0 (omega arith) ∙ c.last_second-last.ensures
 
 pub segment_for-k-requires : goal.segment_for-k-requires
@@ -50,7 +50,7 @@ second-requires c =
 pub returns : goal.returns
 returns c =
     let second = c.second in
-    let place = c.place-for in
+    let place = c.place_for-aimed in
     let b = rw (at_first c.before.before.before.before.before.before.before, at_last c.before.before.before.before.before.before.before) at second.ensures in
     rw (back second.result second.type_inv, back place.result.slope (omega arith))
     (record { from_start = b.not_before; to_last = b.not_after }, <-≤_trans (lt_z_yes tt) place.ensures.steep)
