@@ -162,8 +162,14 @@ class Function:
         self.steps, self.places, self.clauses = {}, {}, {}
         self.parent = {norm(p[0]): norm(p[1]) if p[1] else None for p in d["places"]}
         self.steps_of = {norm(p[0]): p[2][1] for p in d["places"] if p[2]}
-        kinds = {norm(p[0]): v for p, v in zip(d["places"], d["typed"])}
-        self.skipped = {n for n in self.places if re.search("enum-told|known-told", n) and kinds[n] == kinds.get(self.parent[n])}
+        self.arm = {norm(p[0]): arm[0] if arm else None for p, arm in zip(d["places"], d["arms"])}
+        self.raw = {norm(p[0]): p[0] for p in d["places"]}
+        self.by_lts = False
+        self.short = {}
+        self.arms = sorted({("." + norm(step) + "." + ".".join(way), f".{arm[0]}.{new}") for arm in d["arms"] if arm for new, step, way in arm[2] if way and not new.endswith("-own")}, key=lambda x: -len(x[0]))
+        calls = any(p[3] for p in d["places"])
+        named = self.asked or any(d["clauses"]) or d.get("pre")
+        self.claims = (" tie.the-claims" if calls else "") + " reads.Pre reads.Post" + "".join(f" goal.the-invariant-{b} goal.the-decreases-{b}" for (a, b), v in d["loops"]) + (" tie.handed_clauses" if named else "")
         self.viewed = {norm(p[0]): bool(v) for p, v in zip(d["places"], d["typed"])}
         self.at = {b: norm(a[0]) for (_, b), a in zip(d["needs"], d["asked_at"])}
         for i, p in enumerate(d["places"]):
@@ -194,10 +200,10 @@ class Function:
             return at
 
         def steps(a, b):
-            n = 1 if goal and a != b and self.viewed.get(a) else 0
+            n = 1 if goal and self.viewed.get(a) and (a != b or self.by_lts) else 0
             while a and a != b:
-                a = self.parent.get(a)
-                n += a not in self.skipped
+                at, a = self.arm.get(a), self.parent.get(a)
+                n += not (at and at == self.arm.get(a))
             return n
 
         def one(m):
@@ -208,6 +214,10 @@ class Function:
             after = text[m.end() : m.end() + 40]
             if not befores and not rest and re.match(r"[^\s(){}:=]+(?: [^\s(){}:=]+)* $", line) and re.match(r"(?: [^\s(){}:=]+)* =\s", after):
                 return m.group(0)
+            for old, new in self.arms:
+                if rest and (norm(rest) == old or norm(rest).startswith(old + ".")):
+                    rest = new + rest[len(old) :]
+                    return name + rest
             if rest and re.search(r"\.given\.1$", rest):
                 arm = env[name]
                 while arm and not re.match(r"in[-_]", self.steps_of.get(arm, "")):
@@ -230,6 +240,9 @@ class Function:
     def binders(self, text):
         """The variables of a declaration that stand for places."""
         env = {}
+        for m in re.finditer(r"\(([^\s(){}:]+) : ([^\s(){}.;,]+)\)", text):
+            if m.group(2) in self.short:
+                env[m.group(1)] = self.short[m.group(2)]
         for m in re.finditer(r"\(([^\s(){}:]+) : (?:lts|tie)\.([^\s(){}.;,]+)", text):
             if norm(m.group(2)) in self.places:
                 env[m.group(1)] = norm(m.group(2))
@@ -247,9 +260,12 @@ class Function:
             n = norm(m.group(1))
             while n and TOLD.search(self.places.get(n, "")) and self.parent.get(n):
                 n = self.parent[n]
+            raw = self.raw.get(n)
             n = self.places.get(n)
             if not n:
                 return m.group(0)
+            if self.by_lts:
+                return f"lts.{raw}{self.claims}"
             used.add(n)
             return n
 
@@ -345,6 +361,15 @@ def turn(names, crate, folder, said, ensures):
         n = norm(m.group(1))
         return f.needs.get(n) or f.needs.get(re.sub(r"^(overflow|nonzero)-", "", n))
 
+    # a lemma over a place that holds structs by value is stated over the place itself
+    for d in decls:
+        m = re.search(r"^" + re.escape(d["name"] or "-") + r" = (?:lts|tie)\.([^\s(){}.;,]+)", "\n".join(d["lines"]), re.M)
+        if m and norm(m.group(1)) in f.places:
+            f.short[d["name"]] = norm(m.group(1))
+            f.by_lts |= bool(f.viewed.get(norm(m.group(1))))
+        if not goal_of(d):
+            for m in re.finditer(r"\((?:[^\s(){}:]+) : (?:lts|tie)\.([^\s(){}.;,]+)", "\n".join(d["lines"])):
+                f.by_lts |= bool(f.viewed.get(norm(m.group(1))))
     words = set()
     for d in decls:
         if "tie.spec" in "\n".join(d["lines"]):
@@ -467,6 +492,8 @@ def turn(names, crate, folder, said, ensures):
         lines.append(f"use {own}.{'Given' if kind == 'Invariants' else 'Goals'} as goal")
         if kind == "Answers" and brought:
             lines.append(f"use {own}.Invariants.{{{', '.join(brought)}}}")
+        if kind == "Answers" and f.by_lts:
+            lines += [f"use {own}.Lts as lts", f"use {own}.Reads as reads", f"use {own}.Tie as tie"]
         if kind == "Answers" and used:
             lines.append(f"use {own}.Goals.{{{', '.join(sorted(used))}}}")
         body = "\n\n".join(parts)

@@ -1,4 +1,6 @@
 // One segment of a lent series is replaced, and the new series judged as a whole: the way by which single segments come in.
+#![tactic(auto)]
+
 ghost use Rattle.std.specs.Prelude.{◌≡◌};
 ghost use Rattle.refusals.specs.Verdict.{paper_check};
 ghost use Rattle.series.specs.Series.{series};

@@ -1,4 +1,6 @@
 // Two series of one kind, a near and a long one: which of them serves a second, and the coefficients of the segment that covers it (order 13).
+#![tactic(auto)]
+
 ghost use Rattle.std.specs.Prelude.{◌≡◌};
 ghost use Rattle.series.specs.Series.{series};
 ghost use Rattle.served.specs.Served.{serves, paper_serves, part_served, IsPart};

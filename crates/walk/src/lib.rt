@@ -1,5 +1,7 @@
 // The plain walk: the marks of a series, by visiting every second of its span. Of the finder it knows nothing; they share what judges a series and what gives its
 // value at a second. That both give the same is `walk_is_finder` (`engines/specs/WalkIsFinder.antt`).
+#![tactic(auto)]
+
 ghost use Rattle.std.specs.Prelude.{◌≡◌, ◌++◌, ◌*◌, ◌≤◌, length, drop};
 ghost use Rattle.refusals.specs.Lent.{written_into};
 ghost use Rattle.series.specs.Series.{series, InSpan};
