@@ -1,6 +1,6 @@
 -- What is shown is what the almanac says: a line's year, number and leap mark are those its handle was made of (`handle_shown`), and the year is that of the month's
 -- sui (`sui_shown`). `Columns` says that no number is cut. Assumes nothing.
-use Rattle.std.specs.Prelude.{◌≡◌, refl, true, [], ◌∷◌, ◌⊎◌, ℕ, ◌+◌, ◌*◌, ◌/◌, ◌%◌, ◌≤◌, ◌<◌, eqb, ℤ, pos, negsuc, nat_abs, ◌+ℤ◌, ◌*ℤ◌}
+use Rattle.std.specs.Prelude.{◌≡◌, refl, true, [], ◌∷◌, ℕ, ◌+◌, ◌*◌, ◌/◌, ◌%◌, ◌≤◌, ◌<◌, eqb, ℤ, pos, negsuc, nat_abs, ◌+ℤ◌, ◌*ℤ◌}
 use Rattle.std.proofs.Common.{ap, ◌∙◌, ⊎_elim, arith, div-add-mod', mod-lt}
 use Rattle.whole.specs.Parts.{◌⩽◌, ℤ_rules}
 use Rattle.whole.specs.Solver.{⇑, ⇓, ring}

@@ -1,7 +1,7 @@
 -- The first day of each month of a lawful content has a date. Assumes nothing.
 use Rattle.std.specs.Prelude.{◌≡◌, true, ℤ, negsuc, ◌+ℤ◌, ◌-ℤ◌}
 use mathlib.Core.List.{List, [], ◌∷◌}
-use Prim.Native.Nat.{ℕ, zero, suc, ◌+◌, ◌<◌}
+use Prim.Native.Nat.{ℕ, zero, suc, ◌<◌}
 use Rattle.std.proofs.Common.{arith}
 use Rattle.std.proofs.Math.IntN.{pos}
 use Rattle.whole.specs.Solver.{⇑, ⇓, ring}

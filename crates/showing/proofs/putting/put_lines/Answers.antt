@@ -1,5 +1,4 @@
 -- `showing::putting::put_lines` meets its contract. Assumes nothing.
-use Prim.Native.Nat.{◌-◌, ◌≤◌}
 use borrow.Author.Rules.{rules}
 use mathlib.Core.Path.{◌≡◌, refl}
 use native.Mathlib.Omega.{arith}
@@ -9,7 +8,7 @@ use Rattle.showing.proofs.putting.put_lines.Goals as goal
 pub loop-i-init : goal.loop-i-init
 loop-i-init c =
     let a = c.args in
-    (omega arith, (refl, no_lines a.months.now a.out-1.now))
+    (omega arith, (refl, no_lines a.months.now a.out.now))
 
 pub line_at-line-requires : goal.line_at-line-requires
 line_at-line-requires c = record { i_in_bounds = omega (arith, c.loop-i-test.true, c.requires.n_in_bounds); i_value = c.requires.dated.each c.loop-i.i c.loop-i-test.true }
@@ -17,7 +16,7 @@ line_at-line-requires c = record { i_in_bounds = omega (arith, c.loop-i-test.tru
 pub loop-i-preserved : goal.loop-i-preserved
 loop-i-preserved c = (
   omega (arith, c.loop-i-test.true),
-  (search rules, lines_turn c.args.months.now c.args.out.now c.loop-i.i _ (omega (arith, c.loop-i-test.true, c.requires.n_in_bounds_2)) c.loop-i.invariant.1.1 c.put.ensures c.line_at_lem.ensures),
+  (search rules, lines_turn c.args.months.now c.args.out.now c.loop-i.i _ (omega (arith, c.loop-i-test.true, c.requires.n_in_bounds_2)) c.loop-i.invariant.1.1 c.put.ensures c.line_at-line.ensures),
 )
 
 pub shape_of-out : goal.shape_of-out

@@ -1,7 +1,7 @@
 -- `showing::putting::put_lines` meets its contract. Assumes nothing.
 use Prim.Native.Nat.{◌-◌, ◌≤◌}
 use lib.ListN.{length}
-use mathlib.Core.Path.{◌≡◌, refl}
+use mathlib.Core.Path.{◌≡◌}
 use Rattle.showing.specs.Shown.{lines}
 use Rattle.whole.specs.Lists.{placed}
 use Rattle.showing.proofs.putting.put_lines.Given as goal
