@@ -302,8 +302,10 @@ class Function:
         text = TOKEN.sub(step, text)
         path = r"(?:[^\s(){}.;,]+\.)*[^\s(){}.;,]+"
         text = re.sub(r"(\.loop[^\s(){}.;,]*)\.inv\b", r"\1.invariant", text)
+        text = re.sub(r"\.pre(?= )", ".requires", text)
         text = re.sub(r"\bap not \(sym (" + path + r")\) ∙ (" + path + r"\.if-not-[^\s(){}.;,]+\.(?:true|false))", r"ap not (sym \1 ∙ \2)", text)
-        text = re.sub(r"\bnot-(?:true|false) " + path + r" \(?(" + path + r"\.if-not-[^\s(){}.;,]+\.(?:true|false))\)?", r"\1", text)
+        tested = path + r"\.if-not-[^\s(){}.;,]+\.(?:true|false)"
+        text = re.sub(r"\bnot-(?:true|false) " + path + r" (\(" + tested + r"\)|" + tested + r")(?![\w.'-])", lambda m: m.group(1).strip("()"), text)
         text = re.sub(r"\bback (" + path + r") " + path + r"told[^\s(){};,]*\.given[^\s(){};,]*", r"back \1 (omega arith)", text)
         text = re.sub(r"\((fits_of _ )?" + path + r"\.given\)", r"(\1(omega arith))", text) if False else text
         for (s, a), b in self.bits.items():
@@ -462,6 +464,8 @@ def turn(names, crate, folder, said, ensures):
             continue
         body, u = f.terms(body, f.binders(body))
         used |= u
+        if d["name"] in u and re.search(r"^" + re.escape(d["name"]) + r" = " + re.escape(d["name"]) + r"\s*$", body, re.M):
+            continue
         helpers.append((d["name"], "\n".join(comment + [body]), u, d["mods"]))
         answers.append(helpers[-1])
     if spec_args:

@@ -4,6 +4,7 @@ use Rattle.std.specs.Prelude.{◌≡◌, refl, List, ℤ, length}
 use Rattle.std.proofs.Common.{subst}
 use contract.Lifetimes.{Lfts}
 use Rattle.std.specs.Borrow.{Bor}
+use denote.MutBor.{MutBor}
 use Rattle.refusals.specs.Lent.{written_into}
 use Rattle.times.specs.declared.Second.{Second}
 use Rattle.series.specs.declared.Body.{Body}
@@ -16,7 +17,7 @@ use Rattle.finder.proofs.list_marks.Reads as finder
 
 -- what an engine is handed, and what it hands back at its end: a body, a start, the lent coefficients and the lent words
 abbrev Handed : Type 0
-Handed = Body × (Second × (Bor (List ℤ) × (Bor (List ℤ) × Unit {0})))
+Handed = Body × (Second × (Bor (List ℤ) × (MutBor (List ℤ) × Unit {0})))
 
 abbrev pub series_of : Handed → Series
 series_of given = series given.0 given.1.0.0 given.1.1.0.now

@@ -1,16 +1,15 @@
 -- Inputs are accepted exactly when they are known to be good; and of a ready series: each mark's second can be converted, and days of marks rise with the index.
 -- Assumes nothing.
-use Rattle.std.specs.Prelude.{◌≡◌, true, not, ◌||◌, ◌↔◌, List, ◌*◌, ◌<◌, ℤ, pos, ◌≤ℤ◌, ◌<ℤ◌}
+use Rattle.std.specs.Prelude.{◌≡◌, true, not, ◌↔◌, List, ℤ, ◌≤ℤ◌, ◌<ℤ◌}
 use Rattle.std.proofs.Common.{ap, ⊎_elim}
 use Rattle.std.proofs.lemmas.Bool.{not-false}
 use Rattle.whole.specs.Parts.{◌⩽◌}
 use Rattle.whole.specs.Laws.{<→≤, ≤_total, ≤_antisymm, ≤_of-≡}
 use Rattle.whole.specs.Booleans.{neither}
 use Rattle.whole.specs.Ranges.{Within}
-use Rattle.refusals.specs.Verdict.{accepted, refuse_when, before_accepted, refuse_when_accepted, one_result, paper_check, checks_apart, ◌before◌}
+use Rattle.refusals.specs.Verdict.{accepted, before_accepted, refuse_when_accepted, one_result, paper_check, checks_apart}
 use Rattle.refusals.specs.declared.Check.{Check}
 use Rattle.clock.specs.Leap.{leap_lawful}
-use Rattle.clock.specs.Clock.{day_in}
 use Rattle.clock.specs.Answers.{zone_judged, leap_judged}
 use Rattle.clock.specs.Theorems.{days_never_go_back}
 use Rattle.clock.specs.theory.Judged.{zone_known}

@@ -1,4 +1,6 @@
 // Leap table, Sun and Moon, judged together: what every build begins with.
+#![tactic(auto)]
+
 ghost use Rattle.std.specs.Prelude.{◌≡◌};
 ghost use Rattle.refusals.specs.Verdict.{paper_check};
 ghost use Rattle.inputs.specs.Inputs.{inputs, inputs_judged, judged_in};

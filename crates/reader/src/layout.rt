@@ -7,7 +7,7 @@ ghost use Rattle.almanac.specs.Answers.{paper_file};
 use almanac::{Counts, FileAnswer};
 
 // The count that stands at `at`.
-fn count_at_lem(file: &[u8], at: usize) -> usize
+fn count_at(file: &[u8], at: usize) -> usize
     requires { at + 4 ≤ length file.now }
     ensures { (result ≡ pattern4 file.now at) × (result < 4294967296) }
 {
@@ -23,17 +23,17 @@ pub fn counts_of(file: &[u8]) -> FileAnswer
     if end < 4 {
         return broken;
     }
-    let entries = count_at_lem(file, 0);
+    let entries = count_at(file, 0);
     let second = 4 + 8 * entries;
     if end < second + 4 {
         return broken;
     }
-    let suis = count_at_lem(file, second);
+    let suis = count_at(file, second);
     let third = second + 4 + 5 * suis;
     if end < third + 4 {
         return broken;
     }
-    let months = count_at_lem(file, third);
+    let months = count_at(file, third);
     if end != third + 4 + 9 * months {
         return broken;
     }

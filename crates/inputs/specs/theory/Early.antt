@@ -1,5 +1,5 @@
 -- 7 is known from the first mark of a list: marks rise in time, so where the first is not early, none is. Assumes nothing.
-use Rattle.std.specs.Prelude.{◌≡◌, refl, true, false, ◌||◌, List, [], ◌∷◌, ℕ, zero, suc, ◌<◌, ℤ, length, get_or}
+use Rattle.std.specs.Prelude.{◌≡◌, refl, true, false, List, [], ◌∷◌, ℕ, zero, suc, ◌<◌, ℤ, length, get_or}
 use Rattle.std.proofs.Common.{arith}
 use Rattle.whole.specs.Booleans.{neither, none_of}
 use Rattle.clock.specs.Clock.{early}
