@@ -1,6 +1,6 @@
 -- The rule of a sui, computed: which marks are which, the year of a solstice by its day in the zone, the real suis 2033 and 2034 by their listed marks, both sides of
 -- every bound, and the order of the refusals. Assumes nothing.
-use Rattle.std.specs.Prelude.{Bool, true, false, not, ◌&&◌, List, [], ◌∷◌, ◌++◌, ℕ, ◌+◌, ◌-◌, T, eqb, ℤ, pos, negsuc, ◌+ℤ◌, ◌-ℤ◌, ◌*ℤ◌, get_or, take, drop, replicate}
+use Rattle.std.specs.Prelude.{Bool, true, false, not, ◌&&◌, List, [], ◌∷◌, ◌++◌, ℕ, ◌+◌, T, eqb, ℤ, pos, negsuc, ◌+ℤ◌, ◌-ℤ◌, ◌*ℤ◌, get_or, take, drop, replicate}
 use Rattle.whole.specs.Below.{every, any, last_below}
 use Rattle.whole.specs.Counted.{count_of}
 use Rattle.whole.specs.Evaluated.{same, all}

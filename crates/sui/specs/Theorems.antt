@@ -4,7 +4,7 @@
 use Rattle.std.specs.Prelude.{◌≡◌, true, ℤ, ◌+ℤ◌, ◌-ℤ◌, length}
 use Rattle.std.proofs.Math.Path.{sym, ap}
 use Rattle.std.proofs.Common.{ap₂, ◌∙◌, arith}
-use Prim.Native.Nat.{ℕ, suc, ◌+◌, ◌*◌, ◌<◌}
+use Prim.Native.Nat.{ℕ, suc, ◌*◌, ◌<◌}
 use Rattle.std.proofs.Math.IntN.{pos}
 use Rattle.whole.specs.Tabulated.{tabulate, length_tabulate}
 use Rattle.refusals.specs.Verdict.{answered, ◌then◌, then_answered, one_content}

@@ -1,6 +1,6 @@
 -- A sui hangs on the zone by the days of its marks alone: where each listed new moon and each listed zhongqi has one day in two zones, every sui is the same in both
 -- (`same_days_same_sui`). So two zones differ only where a new moon or a zhongqi falls between their midnights. Assumes nothing but what a statement says itself.
-use Rattle.std.specs.Prelude.{◌≡◌, cond, not, ◌&&◌, ◌+◌, ◌*◌, ◌+ℤ◌, ◌-ℤ◌, ◌*ℤ◌}
+use Rattle.std.specs.Prelude.{◌≡◌, cond, not, ◌&&◌, ◌+ℤ◌, ◌-ℤ◌, ◌*ℤ◌}
 use Rattle.std.proofs.Math.Path.{refl, ap, ap₂}
 use Rattle.std.proofs.Math.Bool.{Bool, true, false}
 use mathlib.Core.List.{List, [], ◌∷◌, map}

@@ -7,7 +7,7 @@ use Rattle.whole.specs.Bounded.{zero_within, all_wider, all_append, all_zeros}
 use Rattle.whole.specs.Ranges.{Within, All}
 use Rattle.whole.specs.Tabulated.{tabulate}
 use Rattle.refusals.specs.declared.Refusal.{Refusal}
-use Rattle.refusals.specs.Verdict.{Verdict, accepted, answered, refused, refusal, ◌before◌, ◌then◌, test_answered, then_answered, before_answered}
+use Rattle.refusals.specs.Verdict.{Verdict, accepted, answered, refusal, ◌before◌, ◌then◌, test_answered, then_answered, before_answered}
 use Rattle.dates.specs.Answers.{has_date}
 use Rattle.dates.specs.theory.Sizes.{range_small}
 use Rattle.clock.specs.Theorems.{converted_day_has_date}
