@@ -6,7 +6,7 @@ use native.Mathlib.Omega.{arith}
 use mathlib.Core.Bool.{Bool, true, false}
 use mathlib.Core.List.{List, [], ◌∷◌, ◌++◌, append_assoc}
 use lib.Dec.{ltb}
-use lib.ListN.{length, set, get_or, take, drop, length-set, length-take, length-map}
+use lib.ListN.{length, set, get_or, take, drop, length-set, length-take}
 use lib.Seq.{set_at, drop-cons, take-suc}
 use borrow.Author.Tests.{ltb-false}
 use Rattle.refusals.specs.Verdict.{Verdict, answered, refused, refusal}

@@ -1,5 +1,5 @@
 -- `records::store` meets its contract. Assumes nothing.
-use Rattle.std.proofs.Common.{◌≡◌, ℕ, length, ap, ◌∙◌, arith}
+use Rattle.std.proofs.Common.{◌≡◌, length, ap, ◌∙◌, arith}
 use Rattle.records.proofs.Stored.{Turns, turns_of_lem, length_stored, stored_is}
 use Rattle.records.specs.Records.{count_in}
 use Rattle.records.proofs.store.Goals as goal
