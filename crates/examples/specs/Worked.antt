@@ -58,7 +58,7 @@ lines_are = ap₂ (lines_by table utc8) sun_lists moon_lists
 
 is_listed_lem : listed (under table) utc8 ≡ answered three_lines
 unfolding listed
-is_listed = ap₂ (λ (v : Verdict (Unit {0})) (l : List (List ℕ)). v before answered l) all_good lines_are
+is_listed_lem = ap₂ (λ (v : Verdict (Unit {0})) (l : List (List ℕ)). v before answered l) all_good lines_are
 
 bytes_are : listed_bytes (in_bytes input_words) utc8 ≡ listed (under table) utc8
 unfolding listed_bytes zone_judged is_zone listed_words words places section_end

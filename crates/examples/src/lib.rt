@@ -1,1 +1,2 @@
 // Document 01's starred examples, evaluated inside the proof: `specs/Starred.antt`. Nothing here runs.
+#![tactic(auto)]

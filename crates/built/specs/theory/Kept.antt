@@ -1,5 +1,5 @@
 -- The sui of a year keeps every rule of the file that speaks of one sui alone. Assumes nothing.
-use Rattle.std.specs.Prelude.{◌≡◌, true, ℕ, suc, ◌+◌, ◌-◌, ◌≤◌, ◌<◌, ℤ, pos, ◌+ℤ◌, ◌-ℤ◌, length}
+use Rattle.std.specs.Prelude.{◌≡◌, true, ℕ, suc, ◌+◌, ◌-◌, ◌≤◌, ◌<◌, ℤ, pos, ◌+ℤ◌, ◌-ℤ◌}
 use Rattle.std.proofs.Math.Path.{sym, ap}
 use Rattle.std.proofs.Common.{◌∙◌, arith, add-one, ltb-false}
 use Rattle.std.proofs.lemmas.Bool.{not-false}
@@ -34,7 +34,7 @@ pub record KeptSui (year : ℤ) (sui : Sui) : Type 0 where
   pub leap_stands : (0 < leap) × (leap ≤ 12)
   pub none_in_twelve : (sui.count ≡ 13 → ⊥) → sui.count ≡ leap
   pub handles : (place : ℕ) → place < sui.count → (month sui place).handle ≡ handle_at year leap place
-  pub lengths : (place : ℕ) → place < sui.count → in_range (pos 29) (pos 30) (month sui place).length ≡ true
+  pub lengths : (place : ℕ) → place < sui.count → Rattle.whole.specs.Tests.in_range (pos 29) (pos 30) (month sui place).length ≡ true
   pub meets : (place : ℕ) → suc place < sui.count → (month sui place).first +ℤ (month sui place).length ≡ (month sui (suc place)).first
   pub first_dated : (place : ℕ) → place < sui.count → has_date (month sui place).first ≡ true
   pub last_dated : (place : ℕ) → place < sui.count → has_date ((month sui place).first +ℤ (month sui place).length -ℤ pos 1) ≡ true
