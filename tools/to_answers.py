@@ -150,7 +150,7 @@ TOLD = re.compile(r"_told\d*(?:-|$)|shared_slice_known|_known\d*(?:-|$)")
 
 class Function:
     def __init__(self, names, crate, path, ensures):
-        self.ensures = ensures
+        self.ensures, self.given = ensures
         d = names.get(f"Rattle-{crate}-proofs.{path}.Lts")
         self.known = d is not None
         if d is None:
@@ -303,6 +303,9 @@ class Function:
         path = r"(?:[^\s(){}.;,]+\.)*[^\s(){}.;,]+"
         text = re.sub(r"(\.loop[^\s(){}.;,]*)\.inv\b", r"\1.invariant", text)
         text = re.sub(r"\.pre(?= )", ".requires", text)
+        text = re.sub(r"\.fits\.(?=[a-z])", ".ranges.", text)
+        text = re.sub(r"\bfits_of (" + path + r") " + path + r"told[^\s(){};,]*\.given[^\s(){};,]*", r"fits_of \1 (omega arith)", text)
+        text = re.sub(r"(?<=\.args\.)t(\d+)\b", lambda m: self.given[int(m.group(1))] if int(m.group(1)) < len(self.given) else m.group(0), text)
         text = re.sub(r"\bap not \(sym (" + path + r")\) ∙ (" + path + r"\.if-not-[^\s(){}.;,]+\.(?:true|false))", r"ap not (sym \1 ∙ \2)", text)
         tested = path + r"\.if-not-[^\s(){}.;,]+\.(?:true|false)"
         text = re.sub(r"\bnot-(?:true|false) " + path + r" (\(" + tested + r"\)|" + tested + r")(?![\w.'-])", lambda m: m.group(1).strip("()"), text)
@@ -332,7 +335,7 @@ def chain(text, fields):
 
 
 def contracts(crate):
-    """The names of each function's `ensures`, by the function's path."""
+    """The names of each function's `ensures`, and of its parameters, by the function's path."""
     out = {}
     src = os.path.join("crates", crate, "src")
     for folder, _, names in os.walk(src):
@@ -343,7 +346,8 @@ def contracts(crate):
             mod = "" if p in ("lib", "main") else p.replace("/", ".").removesuffix(".mod") + "."
             text = open(os.path.join(folder, n), encoding="utf-8").read()
             for m in re.finditer(r"^(?:pub )?(?:extern \"C\" )?fn (\w+)[^\n]*((?:\n(?!\{|\}|fn|pub).*)*)", text, re.M):
-                out[mod + m.group(1)] = re.findall(r"ensures (\w+) \{", m.group(0))
+                head = re.split(r"\n    (?:requires|ensures)", m.group(0))[0]
+                out[mod + m.group(1)] = (re.findall(r"ensures (\w+) \{", m.group(0)), re.findall(r"[(,]\s*(?:mut )?(\w+): ", head))
     return out
 
 
@@ -353,7 +357,7 @@ def turn(names, crate, folder, said, ensures):
     if "tie.spec" not in text:
         said.append(f"left: {folder}: a walk by hand")
         return
-    f = Function(names, crate, path, ensures.get(path, []))
+    f = Function(names, crate, path, ensures.get(path, ([], [])))
     if not f.known:
         said.append(f"left: {folder}: no names")
         return

@@ -1,5 +1,7 @@
 // The months of a sui, from leap table, Sun and Moon (document 01, "Months of a sui"). Solstices, zhongqi and new moons are located by index, a few dozen marks
 // a sui; what follows from their days is the month rule of `months`.
+#![tactic(auto)]
+
 ghost use Rattle.std.specs.Prelude.{◌≡◌};
 ghost use Rattle.inputs.specs.Inputs.{inputs};
 ghost use Rattle.months.specs.Answers.{sui_answer};

@@ -6,12 +6,9 @@ use native.Mathlib.Omega.{arith}
 use mathlib.Core.Bool.{Bool, true, false}
 use mathlib.Core.List.{List, [], ◌∷◌, ◌++◌, append_assoc}
 use lib.Dec.{ltb}
-use lib.ListN.{length, set, get_or, take, drop, length-set, length-take, length-map}
+use lib.ListN.{length, set, get_or, take, drop, length-set, length-take}
 use lib.Seq.{set_at, drop-cons, take-suc}
-use mir.Val.{Val}
 use borrow.Author.Tests.{ltb-false}
-use denote.Laws.{Is}
-use denote.Struct.Laws as LL
 use Rattle.refusals.specs.Verdict.{Verdict, answered, refused, refusal}
 use Rattle.refusals.specs.Lent.{written_into}
 use Rattle.refusals.specs.declared.Refusal.{Refusal}
@@ -22,20 +19,9 @@ use Rattle.months.specs.declared.Sui.{Sui}
 use Rattle.months.specs.declared.SuiAnswer.{SuiAnswer}
 use Rattle.months.specs.Handles.{no_month}
 use Rattle.months.specs.Answers.{paper_sui}
-use Rattle.months.specs.contracts.Month as T
-use Rattle.months.specs.contracts.Sui as U
-use Rattle.months.proofs.Sui.TheLaws as U'
-use Rattle.months.specs.contracts.SuiAnswer as S
-use Rattle.months.proofs.SuiAnswer.TheLaws as S'
 use Rattle.records.specs.Records.{records_of, records_into, all_records, records_counted, count_in}
 
 -- ---- 13 places
-pub thirteen : (sui : Sui) {us : List Val} → Is U.the_row sui us → length sui.months ≡ 13
-thirteen sui is = sym (length-map sui.months (T.the_type).to) ∙ (LL.owed U.the_type U'.the_laws sui _ is).1.0.1.0.1
-
-pub sui_is : (found : SuiAnswer) {us : List Val} → Is S.the_row found us → (vs : List Val) × Is U.the_row found.sui vs
-sui_is found is = (_, (LL.owed S.the_type S'.the_laws found _ is).1.0)
-
 pub count_over : (sui : Sui) → length sui.months ≡ 13 → 13 < sui.count → 13 ≡ length (records_of sui)
 count_over sui places h = simp length-take (omega (arith, places, h))
 

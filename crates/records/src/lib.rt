@@ -1,5 +1,7 @@
 // The named form of a sui's months: a lent list of records. `store` alone walks such a list; what it answers, how many records it stores and each record come from
 // functions over plain values.
+#![tactic(auto)]
+
 ghost use Rattle.std.specs.Prelude.{◌≡◌, ◌<◌, length, get_or};
 ghost use Rattle.refusals.specs.Lent.{written_into};
 ghost use Rattle.inputs.specs.Inputs.{inputs};
