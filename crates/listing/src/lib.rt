@@ -1,4 +1,6 @@
 // The listing: from the input's bytes to its lines in a zone, in parts that fit the lent room.
+#![tactic(auto)]
+
 ghost use Rattle.std.specs.Prelude.{◌≡◌, length};
 ghost use Rattle.listed.specs.Listing.{listing};
 ghost use Rattle.listing.specs.Parts.{part_answer, part_held};

@@ -65,12 +65,12 @@ given_means old zone file y = (given_tells (old_build old zone) file, given_when
 
 -- .. and what a build gives is lawful, of the years that it was asked for: these are the years of a file exactly if the build of the old inputs for them gives it ..
 pub given_years_exactly : (old : Inputs) (zone : ℤ) (file : List ℕ) (y : Years) → given old zone file ≡ answered y ↔ (bytes_built old zone y.first (pos y.count) most_bytes ≡ answered file)
-given_years_exactly old zone file y = (λ g. (given_tells (old_build old zone) file g).is-built, λ b. built_is_given old zone y.first (pos y.count) b)
+given_years_exactly old zone file y = (λ g. (given_tells (old_build old zone) file g).is_built, λ b. built_is_given old zone y.first (pos y.count) b)
 
 -- .. and a file is given exactly if that build gives it for some first year and count of suis
 pub given_exactly : (old : Inputs) (zone : ℤ) (file : List ℕ) → ((y : Years) × (given old zone file ≡ answered y)) ↔ ((first count : ℤ) × (bytes_built old zone first count most_bytes ≡ answered file))
 given_exactly old zone file = (
-  λ g. (g.0.first, pos g.0.count, (given_tells (old_build old zone) file g.1).is-built),
+  λ g. (g.0.first, pos g.0.count, (given_tells (old_build old zone) file g.1).is_built),
   λ b. (record { first = b.0; count = nat_abs b.1 }, built_is_given old zone b.0 b.1 b.2),
 )
 
@@ -85,7 +85,7 @@ no_zone_is_15 old new zone e file room places = rw e
 
 pub not_given_is_13 : (old : Inputs) (zone : ℤ) → is_zone zone ≡ true → (file : List ℕ) → ((first count : ℤ) → bytes_built old zone first count most_bytes ≡ answered file → ⊥) → (new : Inputs) (room places : ℕ) → rebuilt old new zone file room places ≡ refused 13 0
 unfolding zone_judged rebuilt_by
-not_given_is_13 old zone z file none new room places = rw (z, not_given (old_build old zone) file (λ y e. none y.first (pos y.count) (given_tells (old_build old zone) file e).is-built))
+not_given_is_13 old zone z file none new room places = rw (z, not_given (old_build old zone) file (λ y e. none y.first (pos y.count) (given_tells (old_build old zone) file e).is_built))
 
 -- ---- "Refusals: those of a fresh build in its order, and 13 first": behind 13 the fresh build for the old file's years, then 12 for the years that are kept
 pub then_as_fresh : (old new : Inputs) (zone first count : ℤ) {file : List ℕ} → bytes_built old zone first count most_bytes ≡ answered file → (room places : ℕ) → rebuilt old new zone file room places ≡ new_file_by (bytes_built new zone first count room) (kept_by (kept old new zone) first (nat_abs count)) places
@@ -184,7 +184,7 @@ unfolding content_by
 old_records_in_file old zone file {y} e =
     let first = y.first in
     let n = y.count in
-    let b = built_is_read old zone first (pos n) most_bytes (given_tells (old_build old zone) file e).is-built in
+    let b = built_is_read old zone first (pos n) most_bytes (given_tells (old_build old zone) file e).is_built in
     let c = b.content in
     let found = then_answered (suis_from old zone first n) (λ suis. answered (content_for old.leap first suis)) c b.is_content in
     let suis = found.0 in

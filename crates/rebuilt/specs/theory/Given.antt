@@ -96,8 +96,8 @@ module _ (built : ℤ → ℤ → Verdict (List ℕ)) (file : List ℕ) where
   unfolding given_by
   given_when {y} g =
       let c = g.content in
-      let same = ap (λ (y : Years). built y.first (pos y.count)) g.years-are ∙ g.is-built in
-      rw g.is_read (sym (test_passes 13 (answered (years_in c)) (ap not (file_is file same))) ∙ ap answered g.years-are)
+      let same = ap (λ (y : Years). built y.first (pos y.count)) g.years_are ∙ g.is_built in
+      rw g.is_read (sym (test_passes 13 (answered (years_in c)) (ap not (file_is file same))) ∙ ap answered g.years_are)
 
   given_only_13 : Only13 (given_by built file)
   unfolding given_by
@@ -121,7 +121,7 @@ module _ (i : Inputs) (zone first count : ℤ) (room : ℕ) {file : List ℕ} (e
   built_in_zone = (before_accepted (zone_judged zone) (inputs_judged i) judged.0).0
 
   in_range_lem : in_range (pos 1) (pos 128) count ≡ true
-  in_range = not-false (in_range (pos 1) (pos 128) count) (test_answered (not (in_range (pos 1) (pos 128) count)) 8 (content_built i zone first (nat_abs count) then λ c. bytes_into c room) file judged.1).0
+  in_range_lem = not-false (in_range (pos 1) (pos 128) count) (test_answered (not (in_range (pos 1) (pos 128) count)) 8 (content_built i zone first (nat_abs count) then λ c. bytes_into c room) file judged.1).0
 
   pub count_built : pos (nat_abs count) ≡ count
   count_built = abs_of_nonneg {a = count} (count_natural count in_range_lem)

@@ -47,7 +47,7 @@ module _ (i : Inputs) (zone first : ℤ) where
       let own = words_of (months_in sui) in
       let more = words_of (months_in l.sui) in
       below j n h
-      (λ less. let front = words_in_turn j n l.are-before d f less in (
+      (λ less. let front = words_in_turn j n l.are_before d f less in (
         front.0 ++ more,
         l.words
             ∙ ap (λ (w : List ℤ). w ++ more) front.1
@@ -55,7 +55,7 @@ module _ (i : Inputs) (zone first : ℤ) where
             ∙ ap (λ (w : List ℤ). month_words done ++ w) (append_assoc own front.0 more),
       ))
       (λ q.
-      let same : l.before ≡ done = answers_apart (sym l.are-before ∙ ap (suis_from i zone first) (sym q) ∙ d) in
+      let same : l.before ≡ done = answers_apart (sym l.are_before ∙ ap (suis_from i zone first) (sym q) ∙ d) in
       let last : l.sui ≡ sui = answers_apart (sym l.is_sui ∙ ap (λ (k : ℕ). sui_of_year i zone (first +ℤ pos k)) (sym q) ∙ f) in (
         [],
         l.words
@@ -66,7 +66,7 @@ module _ (i : Inputs) (zone first : ℤ) where
   -- ---- the suis of fewer years were found too
   pub fewer_found : (j n : ℕ) {suis : List Sui} → suis_from i zone first n ≡ answered suis → j ≤ n → (done : List Sui) × (suis_from i zone first j ≡ answered done)
   fewer_found j zero {suis} e h = let same : j ≡ 0 = omega arith in (suis, ap (suis_from i zone first) same ∙ e)
-  fewer_found j (suc n) {suis} e h = below j (suc n) (omega arith) (λ l. fewer_found j n (last_of n e).are-before (omega arith)) (λ q. (suis, ap (suis_from i zone first) q ∙ e))
+  fewer_found j (suc n) {suis} e h = below j (suc n) (omega arith) (λ l. fewer_found j n (last_of n e).are_before (omega arith)) (λ q. (suis, ap (suis_from i zone first) q ∙ e))
 
   -- ---- three words for each month of a sui, and of the suis before sui j
   pub own_words : (j : ℕ) {sui : Sui} → sui_of_year i zone (first +ℤ pos j) ≡ answered sui → length (words_of (months_in sui)) ≡ 3 * sui.count
@@ -80,7 +80,7 @@ module _ (i : Inputs) (zone first : ℤ) where
   words_before n {suis} e (suc j) {done} d h =
       let s = suis_are i zone first n e in
       let l = last_of j d in
-      let before = words_before n e j l.are-before (omega arith) in
+      let before = words_before n e j l.are_before (omega arith) in
       let same : sui_at suis j ≡ l.sui = answers_apart (sym (s.each j (omega arith) no_sui) ∙ l.is_sui) in
       let months : nat_abs (count_at (sui_words first suis) j) ≡ l.sui.count = ap nat_abs (count_at_lem first suis j (omega (arith, s.all))) ∙ ap (λ (s : Sui). s.count) same in
       omega (arith, ap length l.words, length-append (month_words l.before) (words_of (months_in l.sui)), before, own_words j l.is_sui, months, months_more (sui_words first suis) j)
