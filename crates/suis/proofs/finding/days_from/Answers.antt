@@ -12,7 +12,7 @@ use Rattle.inputs.specs.Inputs.{Inputs, inputs, sun, moon}
 use Rattle.months.specs.Limits.{year_in_range}
 use Rattle.months.specs.Months.{days_of}
 use Rattle.months.specs.Answers.{days_answer}
-use Rattle.months.specs.theory.Kept.{year_small}
+use Rattle.months.proofs.theory.Kept.{year_small}
 use Rattle.turns.specs.Listed.{turn_index_of, turn_days, turns_of}
 use Rattle.sui.specs.theory.Found.{one_in_each, zhongqi_from, found_when, missing_when, out_of_range, sui_days_are}
 use Rattle.suis.specs.theory.Each.{each_is, both_listed}

@@ -5,9 +5,9 @@ use Rattle.refusals.specs.Verdict.{answered, refused_then, answered_then}
 use Rattle.inputs.specs.Inputs.{Inputs, inputs}
 use Rattle.months.specs.Months.{sui_of}
 use Rattle.months.specs.Answers.{sui_answer}
-use Rattle.months.specs.theory.Answered.{days_answered, days_refused}
-use Rattle.months.specs.theory.Kept.{year_small}
-use Rattle.months.specs.theory.Days.{found_small}
+use Rattle.months.proofs.theory.Answered.{days_answered, days_refused}
+use Rattle.months.proofs.theory.Kept.{year_small}
+use Rattle.months.proofs.theory.Days.{found_small}
 use Rattle.sui.specs.Sui.{new_moon_days, zhongqi_days, sui_days}
 use Rattle.sui.specs.Theorems.{sui_days_of_accepted}
 use Rattle.sui.specs.theory.Answered.{Found, days_found_lem, new_moons_small}
