@@ -18,9 +18,9 @@ use Rattle.series.specs.declared.Body.{Body}
 use Rattle.series.specs.Bodies.{numbers}
 use Rattle.series.specs.Series.{segment, segments}
 use Rattle.series.specs.Acceptance.{bad_range, slow, bad_rise, bad_joint, judged_segments}
-use Rattle.series.specs.theory.Known.{segment_length_lem}
+use Rattle.series.proofs.theory.Known.{segment_length_lem}
 use Rattle.series.specs.theory.Kept.{first_of, found, none_found, found_same, found_turn, found_end, found_before}
-use Rattle.series.specs.theory.Span.{last_within}
+use Rattle.series.proofs.theory.Span.{last_within}
 
 -- What is held before segment k: each search over all segments is what was kept of it, the first slow segment and the first bad joint, and what it says of the
 -- segments from k on (joints begin at 1).

@@ -4,7 +4,6 @@ pub mod Rules
 pub mod Counting
 pub mod Sections
 pub mod Checked
-pub mod Reader
 pub mod Writer
 pub mod Records
 pub mod Part

@@ -6,7 +6,7 @@ use Rattle.std.proofs.Common.{◌∙◌, arith, le-leb}
 use Rattle.std.proofs.Math.Bool.{true, false}
 use Rattle.words.specs.Words.{words}
 use Rattle.pieces.specs.Pieces.{all_pieces, joined, CutAtWords, Held}
-use Rattle.pieces.specs.Theorems.{pieces_are_held, pieces_keep_length}
+use Rattle.pieces.proofs.Theorems.{pieces_are_held, pieces_keep_length}
 use Rattle.building.specs.Building.{length_kept, all_taken, built_from, built_from_taken}
 use Rattle.building.specs.theory.Cases.{not_too_long}
 use Rattle.building.specs.Refused.{refused_in_taken, refused_series}

@@ -12,7 +12,7 @@ use Rattle.inputs.specs.Known.{Known}
 use Rattle.inputs.specs.Theorems.{known}
 use Rattle.months.specs.declared.Sui.{Sui}
 use Rattle.months.specs.Answers.{no_sui}
-use Rattle.months.specs.theory.Suis.{month}
+use Rattle.months.proofs.theory.Suis.{month}
 use Rattle.sui.specs.Sui.{sui_for, sui_of_year}
 use Rattle.sui.specs.theory.Answered.{inputs_answered}
 use Rattle.almanac.specs.declared.WriteAnswer.{WriteAnswer}

@@ -11,7 +11,7 @@ use Rattle.times.specs.declared.Day.{Day}
 use Rattle.times.specs.declared.Second.{Second}
 use Rattle.times.specs.declared.Milli.{Milli}
 use Rattle.dates.specs.Calendar.{leap_year, leap_years_to, new_year, month_lengths, year_or_next, year_of, months_over, date_in_year, date_for}
-use Rattle.dates.specs.Order.{date_first}
+use Rattle.dates.proofs.Order.{date_first}
 use Rattle.clock.specs.declared.Reading.{Reading}
 use Rattle.clock.specs.declared.ShownTime.{ShownTime}
 use Rattle.clock.specs.Leap.{first_entry, next_entry, good_entry, whole_pairs, leap_lawful, holds_from, holds, entry_used, inserted_by, inserted}

@@ -3,6 +3,4 @@ pub mod Clock
 pub mod Order
 pub mod Answers
 pub mod Examples
-pub mod Theorems
 pub mod OneResult
-pub mod theory

@@ -1,7 +1,7 @@
 -- One shown time before another: by date, hour, minute, second and millisecond. Assumes nothing: this is a definition.
 use Rattle.std.specs.Prelude.{Bool, false, pos}
 use Rattle.whole.specs.Order.{first_by}
-use Rattle.dates.specs.Order.{date_first}
+use Rattle.dates.proofs.Order.{date_first}
 use Rattle.clock.specs.declared.ShownTime.{ShownTime}
 
 unfoldable pub shown_first : ShownTime → ShownTime → Bool

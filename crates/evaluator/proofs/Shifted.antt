@@ -12,7 +12,8 @@ use mir.Syntax.{w64}
 use mir.Val.{SFits, Fits, to_z, of_z}
 use mir.Facts.{to_z-of_z}
 use Rattle.whole.specs.Laws.{abs-+}
-use Rattle.whole.specs.Floor.{floor_div, floor_div_add, floor_div_fits}
+use Rattle.whole.specs.Floor.{floor_div}
+use Rattle.whole.proofs.Floor.{floor_div_add, floor_div_fits}
 use Rattle.whole.specs.Ranges.{Within, fits<, bounds, within→, cast_need}
 use Rattle.whole.specs.Solver.{⇑, ring}
 

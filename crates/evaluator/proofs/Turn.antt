@@ -6,7 +6,8 @@ use native.Mathlib.Omega.{arith}
 use lib.IntN.{ℤ, pos, ◌+ℤ◌, ◌-ℤ◌, ◌*ℤ◌}
 use mir.Syntax.{w64}
 use mir.Val.{SFits}
-use Rattle.whole.specs.Floor.{floor_div, bound_floor}
+use Rattle.whole.specs.Floor.{floor_div}
+use Rattle.whole.proofs.Floor.{bound_floor}
 use Rattle.whole.specs.Ranges.{Within, fits, fit_hyp, bounds}
 use Rattle.whole.specs.Solver.{⇑, ring}
 use Rattle.chebyshev.specs.Polynomials.{S, P}

@@ -13,8 +13,8 @@ use Rattle.whole.specs.Distance.{distance_from, lies_after, distance_of, distanc
 use Rattle.series.specs.Rising.{Rising}
 use Rattle.series.specs.Series.{Series, last_second}
 use Rattle.series.specs.Acceptance.{Accepted}
-use Rattle.series.specs.Theorems.{accepted_rises}
-use Rattle.series.specs.theory.Span.{span_ordered, span_few}
+use Rattle.series.proofs.Theorems.{accepted_rises}
+use Rattle.series.proofs.theory.Span.{span_ordered, span_few}
 use Rattle.marks.specs.Marks.{index_at, marks}
 use Rattle.marks.specs.theory.Indices.{index_mono}
 use Rattle.marks.specs.theory.StretchLaws.{joined, none, neighbours, length_is, few}

@@ -11,8 +11,8 @@ use Rattle.refusals.specs.Verdict.{accepted, before_accepted, refuse_when_accept
 use Rattle.refusals.specs.declared.Check.{Check}
 use Rattle.clock.specs.Leap.{leap_lawful}
 use Rattle.clock.specs.Answers.{zone_judged, leap_judged}
-use Rattle.clock.specs.Theorems.{days_never_go_back}
-use Rattle.clock.specs.theory.Judged.{zone_known}
+use Rattle.clock.proofs.Theorems.{days_never_go_back}
+use Rattle.clock.proofs.theory.Judged.{zone_known}
 use Rattle.series.specs.Series.{Series}
 use Rattle.marks.specs.Listed.{listed_marks, first_reached, last_reached, second_of_mark}
 use Rattle.marks.specs.Theorems.{later_marks_are_later}

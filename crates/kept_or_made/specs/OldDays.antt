@@ -19,9 +19,9 @@ use Rattle.months.specs.declared.Sui.{Sui}
 use Rattle.months.specs.declared.SuiDays.{SuiDays}
 use Rattle.months.specs.Answers.{no_sui}
 use Rattle.months.specs.Months.{days_of, days_found, by_first, month_count, sui_of}
-use Rattle.months.specs.theory.Days.{found_is, found_count, found_listed, found_zhongqi}
-use Rattle.months.specs.theory.Listed.{at_most_thirteen}
-use Rattle.months.specs.theory.Suis.{sui_count_lem}
+use Rattle.months.proofs.theory.Days.{found_is, found_count, found_listed, found_zhongqi}
+use Rattle.months.proofs.theory.Listed.{at_most_thirteen}
+use Rattle.months.proofs.theory.Suis.{sui_count_lem}
 use Rattle.turns.specs.Listed.{turn_days}
 use Rattle.turns.specs.declared.inner.TurnList.{TurnList}
 use Rattle.sui.specs.Sui.{sui_days, sui_of_year}

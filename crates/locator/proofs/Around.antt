@@ -13,8 +13,8 @@ use Rattle.series.specs.declared.Body.TheVariants.{Sun, Moon}
 use Rattle.series.specs.Bodies.{numbers}
 use Rattle.series.specs.Series.{Series, InSpan, last_second}
 use Rattle.series.specs.Acceptance.{Accepted}
-use Rattle.series.specs.theory.Known.{facts}
-use Rattle.series.specs.theory.Span.{span_few, span_ordered, value_in_span}
+use Rattle.series.proofs.theory.Known.{facts}
+use Rattle.series.proofs.theory.Span.{span_few, span_ordered, value_in_span}
 use Rattle.marks.specs.Stretch.{BracketOf, Searched}
 use Rattle.finder.proofs.Halves.{Inside}
 

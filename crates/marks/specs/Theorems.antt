@@ -8,8 +8,8 @@ use Rattle.refusals.specs.Verdict.{answered, refused}
 use Rattle.series.specs.Bodies.{numbers}
 use Rattle.series.specs.Series.{Series, InSpan, last_second, value_at}
 use Rattle.series.specs.Acceptance.{Accepted, series_judged}
-use Rattle.series.specs.Theorems.{accepted_rises, accepted_tracks}
-use Rattle.series.specs.theory.Span.{span_ordered}
+use Rattle.series.proofs.Theorems.{accepted_rises, accepted_tracks}
+use Rattle.series.proofs.theory.Span.{span_ordered}
 use Rattle.marks.specs.Crossings.{marked, InTimeOrder, numbered}
 use Rattle.marks.specs.Listed.{marks_between, listed_marks, reached_at, first_reached, last_reached, second_of_mark, MarkAt, ListedAt, ExactUnder, ExactReached, ExactOver}
 use Rattle.marks.specs.Words.{mark_words}

@@ -3,5 +3,3 @@ pub mod Months
 pub mod Limits
 pub mod Answers
 pub mod Examples
-pub mod Theorems
-pub mod theory

@@ -1,4 +1,3 @@
 pub mod Pieces
-pub mod Theorems
 pub mod theory
 pub mod Examples

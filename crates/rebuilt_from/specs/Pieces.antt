@@ -6,7 +6,7 @@ use Rattle.std.proofs.Common.{◌∙◌}
 use Rattle.refusals.specs.Verdict.{Verdict}
 use Rattle.inputs.specs.Inputs.{Inputs}
 use Rattle.pieces.specs.Pieces.{all_pieces, joined, CutAtWords, Held}
-use Rattle.pieces.specs.Theorems.{pieces_are_held, pieces_keep_length}
+use Rattle.pieces.proofs.Theorems.{pieces_are_held, pieces_keep_length}
 use Rattle.building.specs.Building.{length_kept, all_taken}
 use Rattle.building.specs.Pieces.{all_there}
 use Rattle.rebuilt_from.specs.RebuiltFrom.{inputs_of, inputs_taken, rebuilt_with, rebuilt_from, rebuilt_from_taken}

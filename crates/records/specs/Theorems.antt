@@ -6,9 +6,9 @@ use Rattle.refusals.specs.Verdict.{answered}
 use Rattle.months.specs.declared.Sui.{Sui}
 use Rattle.months.specs.Months.{numbered}
 use Rattle.months.specs.Limits.{months_of}
-use Rattle.months.specs.Theorems.{accepted_is_sui}
-use Rattle.months.specs.theory.Suis as suis
-use Rattle.months.specs.theory.Suis.{IsSui, days_of_sui}
+use Rattle.months.proofs.Theorems.{accepted_is_sui}
+use Rattle.months.proofs.theory.Suis as suis
+use Rattle.months.proofs.theory.Suis.{IsSui, days_of_sui}
 use Rattle.inputs.specs.Inputs.{Inputs}
 use Rattle.sui.specs.Sui.{sui_for}
 use Rattle.sui.specs.Theorems.{answered_is_sui}

@@ -1,6 +1,2 @@
-pub mod Known
 pub mod Kept
 pub mod Place
-pub mod Refused
-pub mod Span
-pub mod Steps

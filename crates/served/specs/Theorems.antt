@@ -10,9 +10,9 @@ use Rattle.chebyshev.specs.Segment.{value}
 use Rattle.series.specs.declared.Body.{Body}
 use Rattle.series.specs.Series.{Series, series, segment, segments, InSpan, covers, segment_at, place_at, value_at}
 use Rattle.series.specs.Acceptance.{Accepted, series_judged, value_of}
-use Rattle.series.specs.theory.Known.{segment_length_lem}
-use Rattle.series.specs.theory.Refused.{refused_by_two_to_five}
-use Rattle.series.specs.theory.Span.{covers_says, says_covers, not_covers_says, says_not_covers, segment_in_span}
+use Rattle.series.proofs.theory.Known.{segment_length_lem}
+use Rattle.series.proofs.theory.Refused.{refused_by_two_to_five}
+use Rattle.series.proofs.theory.Span.{covers_says, says_covers, not_covers_says, says_not_covers, segment_in_span}
 use Rattle.served.specs.Served.{Side, near, long, chosen, Served, served_by, choice, serves, part_served, IsPart}
 use Rattle.served.specs.theory.Cases.{near_serves, long_serves, none_serves}
 

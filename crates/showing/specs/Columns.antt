@@ -8,12 +8,12 @@ use Rattle.whole.specs.Tests.{in_range, in_range_says}
 use Rattle.refusals.specs.Verdict.{answer_or_refusal}
 use Rattle.dates.specs.Answers.{has_date}
 use Rattle.dates.specs.Calendar.{leap_year, month_lengths, month_length, lengths_in, date_for}
-use Rattle.dates.specs.Theorems.{date_has_number, date_is_valid}
-use Rattle.dates.specs.theory.Days.{Valid, valid_says}
-use Rattle.dates.specs.theory.Judged.{day_found, refused_outside_1500_to_2600}
+use Rattle.dates.proofs.Theorems.{date_has_number, date_is_valid}
+use Rattle.dates.proofs.theory.Days.{Valid, valid_says}
+use Rattle.dates.proofs.theory.Judged.{day_found, refused_outside_1500_to_2600}
 use Rattle.months.specs.declared.Month.{Month}
 use Rattle.months.specs.Handles.{number_at, leap_mark, handle, handle_at}
-use Rattle.months.specs.theory.Numbering.{number_small, mark_small}
+use Rattle.months.proofs.theory.Numbering.{number_small, mark_small}
 use Rattle.content.specs.Content.{Content, month_count, month_at, lawful}
 use Rattle.almanac.specs.theory.FieldLaws.{Counted}
 use Rattle.almanac.specs.theory.Rules.{Rules, rules, counted_in, year_range, length_range, handle_is, Placed, placed}

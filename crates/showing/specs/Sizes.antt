@@ -6,7 +6,7 @@ use Rattle.content.specs.Content.{Content, month_count}
 use Rattle.almanac.specs.Layout.{file_of}
 use Rattle.almanac.specs.Answers.{counts_in, checked_file}
 use Rattle.almanac.specs.Theorems.{read_is_lawful}
-use Rattle.almanac.specs.theory.Reader.{Checked, checked}
+use Rattle.almanac.proofs.theory.Reader.{Checked, checked}
 use Rattle.almanac.specs.theory.Rules.{rules, months_few}
 use Rattle.showing.specs.Shown.{text_of}
 use Rattle.showing.specs.theory.Widths.{text_length}

@@ -6,7 +6,7 @@ use Rattle.whole.specs.Parts.{◌⩽◌, ℤ_rules}
 use Rattle.whole.specs.Solver.{⇑, ⇓, ring}
 use Rattle.months.specs.declared.Month.{Month}
 use Rattle.months.specs.Handles.{number_at, leap_mark, handle, handle_at}
-use Rattle.months.specs.theory.Numbering.{number_small, mark_small}
+use Rattle.months.proofs.theory.Numbering.{number_small, mark_small}
 use Rattle.content.specs.Content.{Content, sui_count, year_at, count_at, month_at, months_before, lawful}
 use Rattle.almanac.specs.theory.Rules.{Rules, rules, year_range, handle_is}
 use Rattle.showing.specs.Shown.{sui_of, number_of, is_leap}

@@ -18,8 +18,8 @@ use Rattle.months.specs.declared.SuiAnswer.{SuiAnswer}
 use Rattle.months.specs.Months.{IsSuiDays, sui_of, sui_in}
 use Rattle.months.specs.Limits.{rising}
 use Rattle.months.specs.Answers.{sui_answer}
-use Rattle.months.specs.Theorems.{Meet, months_meet, found_are_sui_days}
-use Rattle.months.specs.theory.Suis.{IsSui}
+use Rattle.months.proofs.Theorems.{Meet, months_meet, found_are_sui_days}
+use Rattle.months.proofs.theory.Suis.{IsSui}
 use Rattle.sui.specs.Sui.{new_moon_days, solstices_in, zhongqi_days, one_solstice, sui_days, sui_for}
 use Rattle.sui.specs.theory.Answered.{days_found_lem, inputs_answered}
 use Rattle.turns.specs.theory.Counting.{by_small}

@@ -7,7 +7,8 @@ use mathlib.Core.List.{List, [], ◌∷◌, map}
 use Rattle.std.proofs.Common.{arith, eqb-true, eq-eqb}
 use Rattle.std.proofs.Math.IntN.{ℤ, pos}
 use Rattle.whole.specs.Booleans.{both}
-use Rattle.whole.specs.Floor.{floor_div, floor_mod, floor_div_floor_mod, floor_mod_unique}
+use Rattle.whole.specs.Floor.{floor_div, floor_mod}
+use Rattle.whole.proofs.Floor.{floor_div_floor_mod, floor_mod_unique}
 use Rattle.whole.specs.Solver.{⇑, ⇓, ring}
 use Rattle.whole.specs.Selected.{select}
 use Rattle.whole.specs.Tests.{is_exactly}

@@ -5,14 +5,14 @@ use Rattle.std.proofs.Common.{ap, arith, SFits}
 use Rattle.std.specs.Int.Signed.{lt_z}
 use Rattle.std.specs.Int.{w64}
 use Rattle.whole.specs.Distance.{between_fits}
-use Rattle.whole.specs.Floor.{floor_mod_lt, floor_div_holds}
+use Rattle.whole.proofs.Floor.{floor_mod_lt, floor_div_holds}
 use Rattle.whole.specs.Laws.{<→≤}
 use Rattle.whole.specs.Ranges.{Within, fit_hyp, within≤, bounds}
 use Rattle.whole.specs.Solver.{lt_yes, lt_no}
 use Rattle.series.specs.Bodies.{numbers}
 use Rattle.series.specs.Series.{Series, value_at, last_second}
 use Rattle.series.specs.Acceptance.{Accepted}
-use Rattle.series.specs.theory.Span.{start_in_span, last_in_span, value_in_span}
+use Rattle.series.proofs.theory.Span.{start_in_span, last_in_span, value_in_span}
 use Rattle.marks.specs.Marks.{index_at}
 use Rattle.marks.specs.Listed.{first_reached, last_reached}
 use Rattle.marks.specs.theory.Nth.{marks_few, marks_length}

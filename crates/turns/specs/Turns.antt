@@ -3,7 +3,8 @@
 use Rattle.std.specs.Prelude.{◌≡◌, refl, Bool, true, false, cond, [], ◌∷◌, ℕ, ◌+◌, ◌*◌, ◌/◌, ◌%◌, ◌≤◌, ◌<◌, eqb, ℤ, pos, ◌+ℤ◌, ◌-ℤ◌, ◌*ℤ◌, ◌≤ℤ◌}
 use Rattle.std.proofs.Common.{sym, ap, arith, div-add-mod', mod-lt, mul_comm, le-div_iff_mul-le, lit<}
 use Rattle.std.specs.Int.Signed.{lt_z}
-use Rattle.whole.specs.Floor.{floor_mod, floor_div, floor_div_floor_mod, floor_mod_unique}
+use Rattle.whole.specs.Floor.{floor_mod, floor_div}
+use Rattle.whole.proofs.Floor.{floor_div_floor_mod, floor_mod_unique}
 use Rattle.whole.specs.Distance.{distance_from, distance_is}
 use Rattle.whole.specs.Solver.{⇑, ⇓, ring, lt_yes, lt_no}
 use Rattle.series.specs.declared.Body.{Body}

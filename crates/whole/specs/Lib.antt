@@ -4,7 +4,6 @@ pub mod Laws
 pub mod Solver
 pub mod Ranges
 pub mod Floor
-pub mod Division
 pub mod Distance
 pub mod Worked
 pub mod Booleans

@@ -6,7 +6,7 @@ use Rattle.whole.specs.Parts.{◌⩽◌, ◌≺◌}
 use Rattle.whole.specs.Laws.{sq_nonneg}
 use Rattle.whole.specs.Solver.{⇑, ⇓, ring}
 use Rattle.whole.specs.Ranges.{Within, All, fits, within≤, bounds}
-use Rattle.whole.specs.Floor.{floor_div, floor_mod, floor_div_high, floor_div_add}
+use Rattle.whole.specs.Floor.{floor_div, floor_mod}
 
 -- a linear goal: 6 variables, 5 hypotheses
 linear : (a b c d e f : ℤ) → a +ℤ b ⩽ c -ℤ d → c ⩽ e +ℤ pos 7 → pos 2 *ℤ d ⩽ f -ℤ a → neg_ℤ f ⩽ b -ℤ pos 3 → e ≺ a +ℤ d → pos 2 *ℤ a +ℤ b +ℤ pos 3 *ℤ d ≺ e +ℤ pos 2 *ℤ f +ℤ pos 11
@@ -47,9 +47,3 @@ rounded_down = refl
 never_negative : floor_mod (negsuc 6) 4 ≡ 1
 unfolding floor_mod
 never_negative = refl
-
-a_week_later : (z : ℤ) → floor_div (z +ℤ pos 1 *ℤ pos 7) 7 ≡ floor_div z 7 +ℤ pos 1
-a_week_later z = floor_div_add z (pos 1) 7 (omega arith)
-
-near : (z : ℤ) → z -ℤ pos 7 ≺ floor_div z 7 *ℤ pos 7
-near z = let ρ = z ∷ floor_div z 7 ∷ [] in ⇑ ρ (search ring depth 9) (omega (arith, ⇓ ρ (floor_div_high z 7 (omega arith)) (search ring)))

@@ -7,7 +7,7 @@ use Rattle.refusals.specs.Verdict.{answered, refused_first, accepted_first, acce
 use Rattle.whole.specs.Ranges.{back}
 use Rattle.series.specs.Series.{Series, series}
 use Rattle.series.specs.Acceptance.{Accepted, value_of}
-use Rattle.series.specs.theory.Span.{covers_says}
+use Rattle.series.proofs.theory.Span.{covers_says}
 use Rattle.acceptance.proofs.value_at.Goals as goal
 use Rattle.acceptance.proofs.value_at.Goals.{In_default}
 

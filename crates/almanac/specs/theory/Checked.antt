@@ -7,11 +7,11 @@ use Rattle.std.proofs.Math.Nat.{mul-div_cancel_left}
 use Rattle.refusals.specs.Verdict.{answered, refused}
 use Rattle.whole.specs.Booleans.{both_hold}
 use Rattle.clock.specs.Leap.{leap_lawful}
-use Rattle.clock.specs.theory.Table.{few}
+use Rattle.clock.proofs.theory.Table.{few}
 use Rattle.almanac.specs.declared.Counts.{Counts}
 use Rattle.content.specs.Content.{entry_count, sui_count, month_count, whole_suis, lawful}
 use Rattle.content.specs.Steps.{suis_lawful}
-use Rattle.content.specs.theory.Walk.{leap_broken, suis_decide}
+use Rattle.content.proofs.theory.Walk.{leap_broken, suis_decide}
 use Rattle.almanac.specs.Fields.{Field, times, numbers_in}
 use Rattle.almanac.specs.Layout.{entry_fields, sui_fields, month_fields, suis_at, months_at, counts_of, content_at, content_of, file_of}
 use Rattle.almanac.specs.Answers.{counts_in, checked_file}

@@ -18,9 +18,9 @@ use Rattle.whole.specs.Below.{every, every_at}
 use Rattle.words.specs.Words.{half4}
 use Rattle.dates.specs.Answers.{has_date}
 use Rattle.clock.specs.Leap.{leap_lawful, whole_pairs, good_entry, entries, day, offset}
-use Rattle.clock.specs.theory.Table.{few, day_small, offset_is, offset_first}
+use Rattle.clock.proofs.theory.Table.{few, day_small, offset_is, offset_first}
 use Rattle.months.specs.Handles.{number_at, leap_mark, handle, handle_at}
-use Rattle.months.specs.theory.Numbering.{number_small, mark_small}
+use Rattle.months.proofs.theory.Numbering.{number_small, mark_small}
 use Rattle.content.specs.Content.{Content, entry_count, sui_count, month_count, year_at, count_at, month_at, months_before, follows_year, good_sui, leaps_before, good_handle, good_start, good_days, good_month, good_months, good_sui_months, whole_suis, lawful}
 use Rattle.almanac.specs.Fields.{Field, one_byte, unsigned, signed, times}
 use Rattle.almanac.specs.theory.FieldLaws.{Counted, FitsField, Fit}

@@ -7,7 +7,8 @@ use Prim.Native.Nat.{ℕ, zero, suc, ◌+◌, ◌*◌, ◌≤◌, ◌<◌}
 use Rattle.std.proofs.Math.Nat.{mul-lt-mul_of_pos_left, mul-le-mul}
 use Rattle.std.proofs.Math.IntN.{pos, neg_ℤ}
 use Rattle.whole.specs.Solver.{⇑, ⇓, ring}
-use Rattle.whole.specs.Floor.{floor_div, floor_mod, floor_div_floor_mod, floor_mod_lt, floor_div_unique, floor_div_add}
+use Rattle.whole.specs.Floor.{floor_div, floor_mod}
+use Rattle.whole.proofs.Floor.{floor_div_floor_mod, floor_mod_lt, floor_div_unique, floor_div_add}
 use Rattle.chebyshev.specs.Polynomials.{S, P}
 use Rattle.chebyshev.specs.Segment.{coefficient, sum, value}
 use Rattle.chebyshev.specs.EndValues.{even_sum, odd_sum, square_sum, first_value, last_value}

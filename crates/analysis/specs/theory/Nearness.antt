@@ -6,7 +6,8 @@ use Rattle.std.proofs.Math.Nat.{pow-succ', one-le-pow}
 use Rattle.whole.specs.Parts.{◌≺◌, →<}
 use Rattle.whole.specs.Laws.{abs-*, abs-+, abs--}
 use Rattle.whole.specs.Solver.{⇑, ⇓, ring}
-use Rattle.whole.specs.Floor.{floor_div, floor_mod, floor_div_floor_mod, floor_mod_lt}
+use Rattle.whole.specs.Floor.{floor_div, floor_mod}
+use Rattle.whole.proofs.Floor.{floor_div_floor_mod, floor_mod_lt}
 use Rattle.chebyshev.specs.Polynomials.{P, Q}
 use Rattle.chebyshev.specs.Segment.{sum}
 use Rattle.analysis.specs.theory.Rounding.{error, error_within, P_split}

@@ -8,7 +8,8 @@ use Rattle.std.proofs.Math.Nat.{mul-le-mul, pow-succ', pow-suc, le_of_mul-le-mul
 use Rattle.std.proofs.Math.IntN.{pos, nat_abs}
 use Rattle.whole.specs.Laws.{abs-*, abs-+, abs_neg}
 use Rattle.whole.specs.Solver.{⇑, ⇓, ring}
-use Rattle.whole.specs.Floor.{floor_div, floor_mod, floor_div_floor_mod, floor_mod_lt}
+use Rattle.whole.specs.Floor.{floor_div, floor_mod}
+use Rattle.whole.proofs.Floor.{floor_div_floor_mod, floor_mod_lt}
 use Rattle.chebyshev.specs.Polynomials.{P, Q}
 use Rattle.analysis.specs.theory.Pell.{power, abs_power, power_pos, Q_within}
 use Rattle.analysis.specs.theory.Forced.{Forced, forced_within}

@@ -13,8 +13,8 @@ use Rattle.inputs.specs.Inputs.{Inputs, sun, day_of_mark}
 use Rattle.inputs.specs.Known.{Known}
 use Rattle.months.specs.declared.Sui.{Sui}
 use Rattle.months.specs.Months.{last_not_after, sui_of, sui_in}
-use Rattle.months.specs.Theorems.{Meet, months_meet}
-use Rattle.months.specs.theory.Suis.{month}
+use Rattle.months.proofs.Theorems.{Meet, months_meet}
+use Rattle.months.proofs.theory.Suis.{month}
 use Rattle.sui.specs.Sui.{new_moon_days, solstices_in, zhongqi_days, one_solstice, sui_days, sui_of_year}
 use Rattle.sui.specs.Theorems.{solstices_24_apart, zhongqi_every_second_mark}
 use Rattle.sui.specs.theory.Answered.{days_found_lem}

@@ -16,11 +16,11 @@ use Rattle.months.specs.declared.Sui.{Sui}
 use Rattle.months.specs.Handles.{handle_at, month_of}
 use Rattle.months.specs.Months.{by_first, month_count, month_first, month_length, leap_month, month_at, good_length, bad_month, first_bad_month, sui_of}
 use Rattle.months.specs.Limits.{year_in_range}
-use Rattle.months.specs.Theorems.{leap_month_stands}
-use Rattle.months.specs.theory.Days.{found_listed, found_months, found_twelve, found_first}
-use Rattle.months.specs.theory.Leap.{leap_of_others}
-use Rattle.months.specs.theory.Listed.{at_most_thirteen}
-use Rattle.months.specs.theory.Suis.{month, no_bad_month, sui_count_lem, month_is, handle_is, first_is, end_is}
+use Rattle.months.proofs.Theorems.{leap_month_stands}
+use Rattle.months.proofs.theory.Days.{found_listed, found_months, found_twelve, found_first}
+use Rattle.months.proofs.theory.Leap.{leap_of_others}
+use Rattle.months.proofs.theory.Listed.{at_most_thirteen}
+use Rattle.months.proofs.theory.Suis.{month, no_bad_month, sui_count_lem, month_is, handle_is, first_is, end_is}
 use Rattle.sui.specs.Sui.{new_moon_days, zhongqi_days, sui_days, sui_of_year}
 use Rattle.sui.specs.Theorems.{thirteen_zhongqi, new_moon_days_rise}
 use Rattle.sui.specs.theory.Answered.{days_found_lem}

@@ -20,9 +20,9 @@ use Rattle.inputs.specs.Known.{Known}
 use Rattle.months.specs.declared.Month.{Month}
 use Rattle.months.specs.declared.Sui.{Sui}
 use Rattle.months.specs.Answers.{no_sui}
-use Rattle.months.specs.theory.Suis.{month}
+use Rattle.months.proofs.theory.Suis.{month}
 use Rattle.content.specs.Content.{year_at, count_at, month_at, months_before, follows_year, good_sui, leaps_before, good_handle, good_start, good_days, good_month, good_months, good_sui_months, whole_suis, lawful}
-use Rattle.content.specs.theory.Judged.{first_start}
+use Rattle.content.proofs.theory.Judged.{first_start}
 use Rattle.built.specs.Build.{sui_words, month_words, content_for}
 use Rattle.built.specs.theory.Words.{length_sui_words}
 use Rattle.built.specs.theory.Years.{SuisOf}

@@ -4,16 +4,17 @@ use Rattle.std.specs.Prelude.{◌≡◌, refl, Bool, true, false, List, [], ◌�
 use Rattle.std.proofs.Common.{sym, ap₂, ◌∙◌, arith}
 use Rattle.std.proofs.Math.Path.{ap}
 use Rattle.std.proofs.Math.Decide.{dec_lt}
-use Rattle.whole.specs.Floor.{floor_mod, floor_mod_unique}
+use Rattle.whole.specs.Floor.{floor_mod}
+use Rattle.whole.proofs.Floor.{floor_mod_unique}
 use Rattle.whole.specs.Solver.{⇑, ring}
 use Rattle.whole.specs.Tests.{is_exactly, says_exactly}
 use Rattle.months.specs.declared.Month.{Month}
 use Rattle.months.specs.declared.Sui.{Sui}
 use Rattle.months.specs.Handles.{ordinal, number_at, leap_mark, handle, handle_at}
-use Rattle.months.specs.theory.Numbering.{before_leap, from_leap, at_leap, not_at_leap, mark_small}
-use Rattle.months.specs.theory.Suis.{month}
+use Rattle.months.proofs.theory.Numbering.{before_leap, from_leap, at_leap, not_at_leap, mark_small}
+use Rattle.months.proofs.theory.Suis.{month}
 use Rattle.content.specs.Content.{month_at, leaps_before, good_handle}
-use Rattle.content.specs.theory.Judged.{ordinary_handle, leap_decides}
+use Rattle.content.proofs.theory.Judged.{ordinary_handle, leap_decides}
 use Rattle.built.specs.theory.Kept.{KeptSui}
 
 -- the handle of a leap month is odd

@@ -14,7 +14,7 @@ use Rattle.months.specs.Handles.{no_month}
 use Rattle.months.specs.Months as Months
 use Rattle.months.specs.Months.{numbered, sui_of}
 use Rattle.months.specs.Answers.{no_sui}
-use Rattle.months.specs.theory.Suis.{month, sui_is}
+use Rattle.months.proofs.theory.Suis.{month, sui_is}
 use Rattle.sui.specs.Sui.{sui_days, sui_of_year}
 use Rattle.content.specs.Content.{year_at, count_at, month_at, months_before}
 use Rattle.built.specs.Build.{months_in, words_of, sui_words, month_words}

@@ -4,7 +4,7 @@ use mir.Facts.{to_z-of_z}
 use Rattle.refusals.specs.Verdict.{answered, paper_check, accepted_is, accepted_first, refused_first}
 use Rattle.clock.specs.Clock.{day_in, Readable}
 use Rattle.clock.specs.Answers.{clock_judged, day_of_second}
-use Rattle.clock.specs.theory.Judged.{readable}
+use Rattle.clock.proofs.theory.Judged.{readable}
 use Rattle.conversion.proofs.day_of_second.Goals as goal
 use Rattle.conversion.proofs.day_of_second.Goals.{After-judge-check}
 

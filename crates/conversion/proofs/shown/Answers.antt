@@ -4,7 +4,7 @@ use mir.Facts.{to_z-of_z}
 use Rattle.refusals.specs.Verdict.{answered, paper_check, accepted_is, accepted_first, refused_first}
 use Rattle.clock.specs.Clock.{shown_in, Readable}
 use Rattle.clock.specs.Answers.{clock_judged, shown_of}
-use Rattle.clock.specs.theory.Judged.{readable}
+use Rattle.clock.proofs.theory.Judged.{readable}
 use Rattle.conversion.proofs.shown.Goals as goal
 use Rattle.conversion.proofs.shown.Goals.{After-judge-check}
 

@@ -10,8 +10,8 @@ use Rattle.series.specs.Bodies.{numbers}
 use Rattle.series.specs.Series.{Series, series, segments, segment_start, last_second, segment_at, value_at}
 use Rattle.series.specs.Acceptance.{Accepted}
 use Rattle.series.specs.Rising.{Rising}
-use Rattle.series.specs.Theorems.{accepted_rises}
-use Rattle.series.specs.theory.Span.{segment_in_span}
+use Rattle.series.proofs.Theorems.{accepted_rises}
+use Rattle.series.proofs.theory.Span.{segment_in_span}
 use Rattle.marks.specs.Listed.{reached_at, first_reached, last_reached, second_of_mark, MarkAt}
 use Rattle.marks.specs.Theorems.{located_crossing, located_nowhere_else}
 use Rattle.marks.specs.theory.Indices.{reaches, not_reached, index_mono}

@@ -2,7 +2,7 @@
 use Rattle.std.specs.Prelude.{◌≡◌, List, ℕ, ◌+◌, ◌*◌, ◌-◌, ◌≤◌, ◌<◌, ℤ, pos, length, get_or, take, drop}
 use Rattle.std.proofs.Common.{sym, ap, ◌∙◌, arith, div-add-mod', length-drop, length-take-le, get_or-take, get_or-drop, ext_get_or}
 use Rattle.series.specs.Series.{segment, segments}
-use Rattle.series.specs.theory.Known.{segment_length_lem}
+use Rattle.series.proofs.theory.Known.{segment_length_lem}
 
 -- the segments from `from` on and before `to`
 abbrev pub part_of : List ℤ → ℕ → ℕ → List ℤ

@@ -9,8 +9,8 @@ use Rattle.chebyshev.specs.Segment.{value}
 use Rattle.series.specs.declared.Body.{Body}
 use Rattle.series.specs.Series.{Series, series, segments, segment_length, segment_start, InSpan, segment_at, place_at, value_at}
 use Rattle.series.specs.Acceptance.{Accepted}
-use Rattle.series.specs.theory.Known.{facts}
-use Rattle.series.specs.theory.Span.{some_seconds, span_short}
+use Rattle.series.proofs.theory.Known.{facts}
+use Rattle.series.proofs.theory.Span.{some_seconds, span_short}
 use Rattle.corrected.specs.theory.Compared.{SameAt}
 
 module _ (s : Series) {second : ℤ} (low : s.start ≤ℤ second) where

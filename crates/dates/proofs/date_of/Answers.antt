@@ -1,7 +1,7 @@
 -- `dates::date_of` meets its contract. Assumes nothing.
 use Rattle.refusals.specs.Verdict.{answered}
 use Rattle.dates.specs.Answers.{has_date}
-use Rattle.dates.specs.theory.Judged.{date_refused, date_found}
+use Rattle.dates.proofs.theory.Judged.{date_refused, date_found}
 use mathlib.Core.Path.{◌≡◌, sym, ap, ◌∙◌}
 use mathlib.Core.Bool.{true}
 use Rattle.dates.proofs.date_of.Goals as goal

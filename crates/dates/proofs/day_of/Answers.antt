@@ -9,7 +9,7 @@ use Rattle.whole.specs.Solver.{⇑, ⇓, ring}
 use Rattle.whole.specs.Tests.{in_range, in_range_says}
 use Rattle.dates.specs.Answers.{has_date}
 use Rattle.dates.specs.Calendar.{valid}
-use Rattle.dates.specs.theory.Judged.{refused_outside_1500_to_2600, no_date, no_day, day_found}
+use Rattle.dates.proofs.theory.Judged.{refused_outside_1500_to_2600, no_date, no_day, day_found}
 use Rattle.dates.proofs.day_of.Goals as goal
 use Rattle.dates.proofs.day_of.Goals.{After-in_range, Else-not-valid}
 

@@ -14,7 +14,7 @@ use Rattle.content.specs.Content.{Content, lawful}
 use Rattle.almanac.specs.declared.Counts.{Counts}
 use Rattle.almanac.specs.Layout.{suis_at, months_at, end_at, counts_of, content_of, bytes_of, file_of}
 use Rattle.almanac.specs.Answers.{counts_in, checked_file, too_short, content_read, read_file, bytes_into, bytes_to_write, written_file}
-use Rattle.almanac.specs.theory.Reader.{checked}
+use Rattle.almanac.proofs.theory.Reader.{checked}
 use Rattle.built.specs.Build.{suis_by, content_by, bytes_by, built_by, content_built, bytes_of_years, bytes_built, file_built}
 use Rattle.sui.specs.Sui.{sui_of_year}
 use Rattle.sui.specs.theory.Answered.{inputs_answered}

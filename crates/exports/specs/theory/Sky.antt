@@ -9,7 +9,7 @@ use Rattle.refusals.specs.Search.{first_bad}
 use Rattle.series.specs.Bodies.{numbers}
 use Rattle.series.specs.Series.{Series, segments, value_at, last_second, covers}
 use Rattle.series.specs.Acceptance.{Accepted, bad_range, slow, bad_joint, series_judged, value_of}
-use Rattle.series.specs.theory.Span.{span_few}
+use Rattle.series.proofs.theory.Span.{span_few}
 use Rattle.served.specs.Served.{Side, near, long, chosen, Served, served_by, serves}
 use Rattle.served.specs.Theorems.{segment_there}
 use Rattle.replacing.specs.Replaced.{replaced, series_with, segment_replaced, segment_checked}

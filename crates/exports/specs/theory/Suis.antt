@@ -22,10 +22,10 @@ use Rattle.months.specs.declared.SuiAnswer.{SuiAnswer}
 use Rattle.months.specs.Months.{moon_missing, twelve_or_thirteen, month_count, first_bad_month, lengths_judged, numbered, days_of, sui_of, sui_in}
 use Rattle.months.specs.Limits.{year_in_range, lists_kept, months_of}
 use Rattle.months.specs.Answers.{sui_answer, paper_sui}
-use Rattle.months.specs.Theorems.{accepted_is_sui}
-use Rattle.months.specs.theory.Days.{found_twelve}
-use Rattle.months.specs.theory.Listed.{at_most_thirteen}
-use Rattle.months.specs.theory.Suis.{IsSui, days_of_sui, sui_is}
+use Rattle.months.proofs.Theorems.{accepted_is_sui}
+use Rattle.months.proofs.theory.Days.{found_twelve}
+use Rattle.months.proofs.theory.Listed.{at_most_thirteen}
+use Rattle.months.proofs.theory.Suis.{IsSui, days_of_sui, sui_is}
 use Rattle.sui.specs.Sui.{one_solstice, solstices_of, new_moon_days_of, zhongqi_days_of, days_by_marks, sui_days, sui_of_year, sui_for}
 use Rattle.sui.specs.Theorems.{answered_is_sui}
 use Rattle.built.specs.Build.{months_in}

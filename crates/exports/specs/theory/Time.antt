@@ -1,7 +1,8 @@
 -- Days, dates and the clock: the numbers of their answers and refusals fit a word. Assumes nothing.
 use Rattle.std.specs.Prelude.{ℕ, ◌≤◌, Bool, true, false, not, ◌&&◌, List, ℤ}
 use Rattle.std.proofs.Common.{arith}
-use Rattle.whole.specs.Floor.{floor_mod, floor_mod_lt}
+use Rattle.whole.specs.Floor.{floor_mod}
+use Rattle.whole.proofs.Floor.{floor_mod_lt}
 use Rattle.times.specs.declared.Day.{Day}
 use Rattle.times.specs.declared.Second.{Second}
 use Rattle.dates.specs.declared.Date.{Date}

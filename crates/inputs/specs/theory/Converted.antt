@@ -10,8 +10,8 @@ use Rattle.times.specs.declared.Second.{Second}
 use Rattle.clock.specs.Clock.{convertible, early, Readable}
 use Rattle.series.specs.Series.{Series, InSpan, segment_length, segments}
 use Rattle.series.specs.Acceptance.{Accepted}
-use Rattle.series.specs.theory.Known.{facts}
-use Rattle.series.specs.theory.Span.{span_short}
+use Rattle.series.proofs.theory.Known.{facts}
+use Rattle.series.proofs.theory.Span.{span_short}
 use Rattle.marks.specs.Marks.{Mark}
 use Rattle.marks.specs.Crossings.{marked}
 use Rattle.marks.specs.Answers.{no_mark}

@@ -2,7 +2,7 @@
 use Rattle.std.specs.Prelude.{◌≡◌, refl, Bool, true, false, List, ℕ, ◌<◌, ℤ, length, get_or}
 use Rattle.std.proofs.Common.{sym, ◌∙◌}
 use Rattle.clock.specs.Clock.{convertible, early}
-use Rattle.clock.specs.Theorems.{goes_on_holding}
+use Rattle.clock.proofs.Theorems.{goes_on_holding}
 use Rattle.series.specs.Series.{Series}
 use Rattle.series.specs.Acceptance.{Accepted}
 use Rattle.marks.specs.Marks.{Mark}

@@ -6,13 +6,14 @@ use Rattle.std.proofs.Common.{arith}
 use Rattle.std.proofs.Math.IntN.{pos}
 use Rattle.whole.specs.Parts.{◌⩽◌}
 use Rattle.whole.specs.Laws.{≤_antisymm}
-use Rattle.whole.specs.Floor.{floor_div, floor_mod, floor_div_ge, floor_div_floor_mod}
+use Rattle.whole.specs.Floor.{floor_div, floor_mod}
+use Rattle.whole.proofs.Floor.{floor_div_ge, floor_div_floor_mod}
 use Rattle.whole.specs.Solver.{⇑, ⇓, ring}
 use Rattle.times.specs.declared.Second.{Second}
 use Rattle.clock.specs.Leap.{leap_lawful}
 use Rattle.clock.specs.Clock.{count_in, day_of_milli, day_in}
-use Rattle.clock.specs.Theorems.{days_never_go_back}
-use Rattle.clock.specs.theory.Counts.{count_no_faster}
+use Rattle.clock.proofs.Theorems.{days_never_go_back}
+use Rattle.clock.proofs.theory.Counts.{count_no_faster}
 
 module _ (w : List ℤ) (l : leap_lawful w ≡ true) (m s : Second) (order : m.0 ⩽ s.0) where
   pub of_one_day : (zone k : ℤ) → s.0 -ℤ m.0 ⩽ k → pos 1000 *ℤ k ⩽ pos (floor_mod (count_in w s zone).0 86400000) → day_in w s zone ≡ day_in w m zone

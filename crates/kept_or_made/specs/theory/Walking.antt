@@ -13,7 +13,7 @@ use Rattle.inputs.specs.Inputs.{Inputs}
 use Rattle.months.specs.declared.Sui.{Sui}
 use Rattle.months.specs.declared.SuiDays.{SuiDays}
 use Rattle.months.specs.Months.{sui_of}
-use Rattle.months.specs.theory.Suis.{sui_count_lem}
+use Rattle.months.proofs.theory.Suis.{sui_count_lem}
 use Rattle.turns.specs.declared.inner.TurnList.{TurnList}
 use Rattle.sui.specs.Sui.{sui_days}
 use Rattle.suis.specs.declared.inner.Places.{Places}

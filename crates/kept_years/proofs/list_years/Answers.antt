@@ -2,7 +2,7 @@
 use mathlib.Core.Path.{sym, ap, ◌∙◌}
 use native.Mathlib.Omega.{arith}
 use Rattle.almanac.specs.Answers.{paper_file}
-use Rattle.almanac.specs.theory.Reader.{Checked, checked}
+use Rattle.almanac.proofs.theory.Reader.{Checked, checked}
 use Rattle.kept_years.specs.theory.Listed.{not_listed, is_listed_lem, passing_on}
 use Rattle.kept_years.proofs.list_years.Goals as goal
 use Rattle.kept_years.proofs.list_years.Goals.{In-File}

@@ -7,7 +7,7 @@ use Rattle.almanac.specs.declared.Counts.{Counts}
 use Rattle.almanac.specs.Layout.{content_at, file_of}
 use Rattle.almanac.specs.Answers.{counts_in, checked_file}
 use Rattle.almanac.specs.theory.Checked.{sui_count_lem}
-use Rattle.almanac.specs.theory.Reader.{Checked}
+use Rattle.almanac.proofs.theory.Reader.{Checked}
 use Rattle.kept_years.specs.KeptYears.{lines, lines_of}
 use Rattle.kept_years.specs.Answers.{lines_into, lines_listed}
 use Rattle.kept_years.specs.theory.Putting.{Promises}

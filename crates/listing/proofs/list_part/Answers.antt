@@ -11,7 +11,7 @@ use mathlib.Core.Path.{◌≡◌, sym, ap, ◌∙◌}
 use native.Mathlib.Omega.{arith}
 use Rattle.clock.specs.Clock.{is_zone}
 use Rattle.clock.specs.Answers.{zone_judged}
-use Rattle.clock.specs.theory.Judged.{zone_is_small}
+use Rattle.clock.proofs.theory.Judged.{zone_is_small}
 use Rattle.listed.specs.Listing.{listed_bytes, listed_words, printed}
 use Rattle.refusals.specs.Verdict.{refused}
 use Rattle.words.specs.Words.{words, words_length}

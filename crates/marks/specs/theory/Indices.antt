@@ -6,7 +6,8 @@ use mathlib.Core.List.{List, [], ◌∷◌}
 use Rattle.std.proofs.Math.IntN.{ℤ, pos}
 use Rattle.whole.specs.Parts.{ℤ_rules, →≤, →≡, parts_add}
 use Rattle.whole.specs.Laws.{≤_total, ≤_trans, <→≤, *_mono}
-use Rattle.whole.specs.Floor.{floor_div, floor_div_ge, floor_div_le, floor_div_low, floor_div_high, floor_div_mono}
+use Rattle.whole.specs.Floor.{floor_div}
+use Rattle.whole.proofs.Floor.{floor_div_ge, floor_div_le, floor_div_low, floor_div_high, floor_div_mono}
 use Rattle.whole.specs.Distance.{distance_from, clash, next, lies_after}
 use Rattle.whole.specs.Solver.{⇑, ⇓, ring}
 use Rattle.series.specs.Rising.{Rising}

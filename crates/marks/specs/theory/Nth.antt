@@ -7,14 +7,14 @@ use Rattle.whole.specs.Parts.{→≤}
 use Rattle.whole.specs.Laws.{≤_trans, <→≤, abs--}
 use Rattle.whole.specs.Solver.{⇑, ⇓, ring}
 use Rattle.whole.specs.Ranges.{fit_hyp}
-use Rattle.whole.specs.Floor.{floor_div_fits, floor_div_holds}
+use Rattle.whole.proofs.Floor.{floor_div_fits, floor_div_holds}
 use Rattle.whole.specs.Distance.{distance_from, distance_is, between_fits}
 use Rattle.series.specs.Bodies.{numbers}
 use Rattle.series.specs.Series.{Series, value_at, last_second, InSpan}
 use Rattle.series.specs.Acceptance.{Accepted}
 use Rattle.series.specs.Rising.{Rising}
-use Rattle.series.specs.Theorems.{accepted_rises}
-use Rattle.series.specs.theory.Span.{span_ordered, start_in_span, last_in_span, value_in_span}
+use Rattle.series.proofs.Theorems.{accepted_rises}
+use Rattle.series.proofs.theory.Span.{span_ordered, start_in_span, last_in_span, value_in_span}
 use Rattle.marks.specs.Marks.{index_at}
 use Rattle.marks.specs.Crossings.{marked}
 use Rattle.marks.specs.Listed.{listed_marks, first_reached, last_reached, second_of_mark, MarkAt}

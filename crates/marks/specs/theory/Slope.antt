@@ -4,14 +4,15 @@ use Rattle.std.proofs.Common.{sym, subst, ⊎_elim, arith}
 use Rattle.whole.specs.Parts.{◌⩽◌, ◌≺◌}
 use Rattle.whole.specs.Laws.{≤_total, <→≤}
 use Rattle.whole.specs.Distance.{distance_from, lies_after}
-use Rattle.whole.specs.Floor.{floor_div, floor_div_ge, floor_div_low}
+use Rattle.whole.specs.Floor.{floor_div}
+use Rattle.whole.proofs.Floor.{floor_div_ge, floor_div_low}
 use Rattle.whole.specs.Solver.{⇑, ⇓, ring}
 use Rattle.chebyshev.specs.Segment.{divisor}
 use Rattle.analysis.specs.theory.Between.{values_rise}
 use Rattle.series.specs.Bodies.{numbers}
 use Rattle.series.specs.Series.{Series, InSpan, value_at, exact_at, last_second}
 use Rattle.series.specs.Acceptance.{Accepted}
-use Rattle.series.specs.Theorems.{accepted_tracks}
+use Rattle.series.proofs.Theorems.{accepted_tracks}
 use Rattle.marks.specs.Listed.{second_of_mark, MarkAt}
 
 module _ (s : Series) (e : Accepted s) where

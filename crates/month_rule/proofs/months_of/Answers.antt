@@ -8,10 +8,10 @@ use Rattle.refusals.specs.Verdict.{answered}
 use Rattle.months.specs.Months.{days_of}
 use Rattle.months.specs.Limits.{lists_kept}
 use Rattle.months.specs.Answers.{sui_answer}
-use Rattle.months.specs.Theorems.{found_are_sui_days}
-use Rattle.months.specs.theory.Answered.{days_answered, days_refused, months_not_kept, months_refused, months_found}
-use Rattle.months.specs.theory.Days.{found_small}
-use Rattle.months.specs.theory.Kept.{Kept, kept, year_small, days_small}
+use Rattle.months.proofs.Theorems.{found_are_sui_days}
+use Rattle.months.proofs.theory.Answered.{days_answered, days_refused, months_not_kept, months_refused, months_found}
+use Rattle.months.proofs.theory.Days.{found_small}
+use Rattle.months.proofs.theory.Kept.{Kept, kept, year_small, days_small}
 use Rattle.month_rule.proofs.months_of.Goals as goal
 use Rattle.month_rule.proofs.months_of.Goals.{After-lists_kept, Else-not-lists_kept, In_default}
 

@@ -10,9 +10,9 @@ use Rattle.inputs.specs.Known.{Known}
 use Rattle.inputs.specs.Theorems.{known, accepted_in}
 use Rattle.months.specs.Months.{sui_of}
 use Rattle.months.specs.Answers.{days_answer, sui_answer}
-use Rattle.months.specs.theory.Answered.{days_answered, days_refused}
-use Rattle.months.specs.theory.Days.{found_small}
-use Rattle.months.specs.theory.Kept.{year_small}
+use Rattle.months.proofs.theory.Answered.{days_answered, days_refused}
+use Rattle.months.proofs.theory.Days.{found_small}
+use Rattle.months.proofs.theory.Kept.{year_small}
 use Rattle.sui.specs.Sui.{new_moon_days, zhongqi_days, sui_days, sui_for}
 use Rattle.sui.specs.Theorems.{sui_days_of_accepted}
 use Rattle.sui.specs.theory.Answered.{sui_refused, sui_found, Found, days_found_lem, new_moons_small}

@@ -2,7 +2,7 @@
 use mathlib.Core.Path.{sym, ap, ◌∙◌}
 use native.Mathlib.Omega.{arith}
 use Rattle.almanac.specs.Answers.{paper_file}
-use Rattle.almanac.specs.theory.Reader.{checked, file_refused, no_room, all_read, room_is}
+use Rattle.almanac.proofs.theory.Reader.{checked, file_refused, no_room, all_read, room_is}
 use Rattle.reader.proofs.read_file.Goals as goal
 
 pub too_short-requires : goal.too_short-requires

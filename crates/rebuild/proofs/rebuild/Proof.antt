@@ -9,7 +9,7 @@ use Rattle.whole.specs.Ranges.{fits_of}
 use Rattle.refusals.specs.Verdict.{answered, accepted, accepted_is, paper_check, ◌then◌}
 use Rattle.clock.specs.Clock.{is_zone}
 use Rattle.clock.specs.Answers.{zone_judged}
-use Rattle.clock.specs.theory.Judged.{zone_is_small}
+use Rattle.clock.proofs.theory.Judged.{zone_is_small}
 use Rattle.inputs.specs.Inputs.{Inputs, inputs}
 use Rattle.inputs.specs.Theorems.{known}
 use Rattle.almanac.specs.Layout.{file_of}

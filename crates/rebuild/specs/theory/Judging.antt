@@ -13,7 +13,7 @@ use Rattle.almanac.specs.Layout.{suis_at, content_at, file_of}
 use Rattle.almanac.specs.Answers.{counts_in, checked_file, bytes_counted, all_bytes}
 use Rattle.almanac.specs.Theorems.{read}
 use Rattle.almanac.specs.theory.Checked.{sui_count_lem}
-use Rattle.almanac.specs.theory.Reader.{Checked}
+use Rattle.almanac.proofs.theory.Reader.{Checked}
 use Rattle.almanac.specs.theory.Records.{sui_stands}
 use Rattle.almanac.specs.theory.Rules.{rules, some_sui, few_suis}
 use Rattle.rebuild.specs.declared.old.FileYearsAnswer.{FileYearsAnswer}

@@ -15,7 +15,7 @@ use Rattle.words.specs.Words.{pattern4}
 use Rattle.content.specs.Content.{Content, lawful, year_at}
 use Rattle.almanac.specs.Layout.{bytes_of, suis_at, months_at, end_at, counts_of, content_at, content_of, file_of}
 use Rattle.almanac.specs.Answers.{counts_in, checked_file, bytes_into}
-use Rattle.almanac.specs.theory.Reader.{checked}
+use Rattle.almanac.proofs.theory.Reader.{checked}
 use Rattle.built.specs.Build.{content_built, bytes_built, built_by, bytes_by}
 use Rattle.built.specs.Theorems.{BuiltFile, built_is_read, one_sui_a_year, sui_of_each_year}
 use Rattle.built.specs.theory.Count.{count_natural, count_small}

@@ -6,8 +6,8 @@ use Rattle.refusals.specs.Verdict.{Verdict, answered, refused}
 use Rattle.inputs.specs.Inputs.{Inputs}
 use Rattle.months.specs.declared.SuiDays.{SuiDays}
 use Rattle.months.specs.Months.{by_first, month_count, days_found, days_of}
-use Rattle.months.specs.theory.Days.{found_listed, found_count, found_is}
-use Rattle.months.specs.theory.Listed.{at_most_thirteen}
+use Rattle.months.proofs.theory.Days.{found_listed, found_count, found_is}
+use Rattle.months.proofs.theory.Listed.{at_most_thirteen}
 use Rattle.sui.specs.Sui.{new_moon_days, zhongqi_days, sui_days}
 use Rattle.sui.specs.theory.Answered.{days_found_lem}
 use Rattle.rebuilt.specs.Rebuild.{days_words, same_days, is_kept}

@@ -6,7 +6,7 @@ use Rattle.std.proofs.Math.Decide.{dec_lt}
 use Rattle.std.proofs.Math.Seq.{paste}
 use Rattle.whole.specs.Lists.{placed_length}
 use Rattle.series.specs.Series.{segment, segments}
-use Rattle.series.specs.theory.Known.{segment_length_lem}
+use Rattle.series.proofs.theory.Known.{segment_length_lem}
 use Rattle.replacing.specs.Replaced.{replaced}
 use Rattle.replacing.specs.theory.Placed.{placed_itself, placed_over, at_placed, before_placed, behind_placed}
 

@@ -5,7 +5,7 @@ use Rattle.whole.specs.Distance.{distance_from}
 use Rattle.refusals.specs.Verdict.{answered, refused_first, accepted_first, accepted_is}
 use Rattle.series.specs.Series.{Series, series, covers}
 use Rattle.series.specs.Acceptance.{Accepted}
-use Rattle.series.specs.theory.Span.{covers_says, span_short, distance_in_span}
+use Rattle.series.proofs.theory.Span.{covers_says, span_short, distance_in_span}
 use Rattle.served.specs.Served.{near, long, serves}
 use Rattle.served.specs.theory.Cases.{near_serves, long_serves, none_serves}
 use Rattle.serving.proofs.serves.Goals as goal

@@ -6,7 +6,7 @@ use Rattle.std.proofs.Math.ListN.{length}
 use Rattle.std.proofs.Math.Seq.{take_at}
 use Rattle.refusals.specs.Verdict.{Verdict, answered, refused, refuse_when, answers_apart, answer_or_refusal, ◌before◌, ◌then◌}
 use Rattle.refusals.specs.Lent.{written_into}
-use Rattle.clock.specs.theory.Table.{few}
+use Rattle.clock.proofs.theory.Table.{few}
 use Rattle.almanac.specs.declared.Counts.{Counts}
 use Rattle.content.specs.Content.{Content, month_count, month_words_lem}
 use Rattle.almanac.specs.Layout.{file_of}

@@ -9,8 +9,8 @@ use Rattle.whole.specs.Tabulated.{tabulate}
 use Rattle.refusals.specs.declared.Refusal.{Refusal}
 use Rattle.refusals.specs.Verdict.{Verdict, accepted, answered, refusal, ◌before◌, ◌then◌, test_answered, then_answered, before_answered}
 use Rattle.dates.specs.Answers.{has_date}
-use Rattle.dates.specs.theory.Sizes.{range_small}
-use Rattle.clock.specs.Theorems.{converted_day_has_date}
+use Rattle.dates.proofs.theory.Sizes.{range_small}
+use Rattle.clock.proofs.Theorems.{converted_day_has_date}
 use Rattle.series.specs.Series.{Series}
 use Rattle.marks.specs.Marks.{Mark}
 use Rattle.marks.specs.Listed.{second_of_mark}

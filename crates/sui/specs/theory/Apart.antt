@@ -5,15 +5,16 @@ use Rattle.std.proofs.Common.{sym, ap, ◌∙◌, arith}
 use Rattle.std.specs.Int.Signed.{lt_z}
 use Rattle.whole.specs.Booleans.{both_hold}
 use Rattle.whole.specs.Distance.{distance_from, lies_after}
-use Rattle.whole.specs.Floor.{floor_div, floor_div_mono, floor_div_add}
+use Rattle.whole.specs.Floor.{floor_div}
+use Rattle.whole.proofs.Floor.{floor_div_mono, floor_div_add}
 use Rattle.whole.specs.Parts.{◌⩽◌}
 use Rattle.whole.specs.Solver.{⇑, ⇓, ring, yes_lt}
 use Rattle.whole.specs.Tabulated.{tabulate}
 use Rattle.times.specs.declared.Second.{Second}
 use Rattle.clock.specs.Leap.{leap_lawful, offset, entry_used}
 use Rattle.clock.specs.Clock.{tai, local_milli, day_of_milli, day_in}
-use Rattle.clock.specs.theory.Inserted.{later, count_is}
-use Rattle.clock.specs.theory.Sizes.{offset_used_small}
+use Rattle.clock.proofs.theory.Inserted.{later, count_is}
+use Rattle.clock.proofs.theory.Sizes.{offset_used_small}
 use Rattle.series.specs.declared.Body.TheVariants.{Moon}
 use Rattle.series.specs.Series.{Series, series, value_at, last_second}
 use Rattle.series.specs.Acceptance.{Accepted}

@@ -6,7 +6,7 @@ use Rattle.whole.specs.Ranges.{Within, fits, bounds}
 use Rattle.whole.specs.Solver.{⇑, ring}
 use Rattle.dates.specs.declared.Date.{Date}
 use Rattle.dates.specs.Calendar.{new_year, month_lengths, month_length, days_before, valid_date, number_of, valid, day_number}
-use Rattle.dates.specs.theory.Sizes.{new_year_small}
+use Rattle.dates.proofs.theory.Sizes.{new_year_small}
 
 abbrev pub january : ℤ → Date
 january year = record { year = year; month = pos 1; day = pos 1 }

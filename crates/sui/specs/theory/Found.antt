@@ -10,7 +10,7 @@ use Rattle.whole.specs.Solver.{⇑, ⇓, ring}
 use Rattle.whole.specs.Tabulated.{tabulate}
 use Rattle.refusals.specs.Verdict.{Verdict, answered, refused, ◌then◌}
 use Rattle.dates.specs.Calendar.{new_year}
-use Rattle.dates.specs.theory.Years.{in_order}
+use Rattle.dates.proofs.theory.Years.{in_order}
 use Rattle.series.specs.declared.Body.TheVariants.{Sun}
 use Rattle.series.specs.Series.{Series, series}
 use Rattle.marks.specs.Listed.{last_reached}

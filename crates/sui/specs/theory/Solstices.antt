@@ -8,7 +8,8 @@ use mathlib.Core.List.{List, [], ◌∷◌, ◌++◌, map}
 use native.Mathlib.Omega.{arith}
 use Rattle.std.proofs.Math.IntN.{pos}
 use Rattle.whole.specs.Booleans.{both, both_hold}
-use Rattle.whole.specs.Floor.{floor_mod, floor_div, floor_div_floor_mod, floor_mod_unique}
+use Rattle.whole.specs.Floor.{floor_mod, floor_div}
+use Rattle.whole.proofs.Floor.{floor_div_floor_mod, floor_mod_unique}
 use Rattle.whole.specs.Parts.{◌⩽◌}
 use Rattle.whole.specs.Laws.{≤_trans}
 use Rattle.whole.specs.Solver.{⇑, ⇓, ring}
@@ -16,7 +17,7 @@ use Rattle.whole.specs.Tabulated.{tabulate}
 use Rattle.whole.specs.Tests.{in_range, is_exactly, exactly_says, says_exactly, in_range_says, says_in_range}
 use Rattle.refusals.specs.Verdict.{answered, refused, answers_apart, answer_or_refusal}
 use Rattle.dates.specs.Calendar.{new_year, year_of}
-use Rattle.dates.specs.theory.Years.{year_found, year_unique}
+use Rattle.dates.proofs.theory.Years.{year_found, year_unique}
 use Rattle.series.specs.declared.Body.TheVariants.{Sun}
 use Rattle.series.specs.Series.{series}
 use Rattle.marks.specs.Marks.{Mark}

@@ -7,7 +7,7 @@ use Rattle.whole.specs.Parts.{◌⩽◌}
 use Rattle.whole.specs.Laws.{<→≤}
 use Rattle.whole.specs.Solver.{⇑, ⇓, ring}
 use Rattle.whole.specs.Distance.{distance_from, distance_next, next as one_further}
-use Rattle.whole.specs.Floor.{div_step, div_wrap}
+use Rattle.whole.proofs.Floor.{div_step, div_wrap}
 use Rattle.chebyshev.specs.Polynomials.{S}
 use Rattle.chebyshev.specs.Segment.{value}
 use Rattle.analysis.specs.Theorems.{value_rises_little}
@@ -15,9 +15,9 @@ use Rattle.series.specs.Bodies.{numbers, BodyLaws, body_laws}
 use Rattle.series.specs.Series.{Series, segment, segments, segment_length, last_second, InSpan, value_at}
 use Rattle.series.specs.Acceptance.{Accepted, rise}
 use Rattle.series.specs.Facts.{Facts}
-use Rattle.series.specs.theory.Known.{facts}
+use Rattle.series.proofs.theory.Known.{facts}
 use Rattle.series.specs.theory.Place.{place_after, value_by_remainder}
-use Rattle.series.specs.theory.Span.{some_seconds, place_within, segment_in_span}
+use Rattle.series.proofs.theory.Span.{some_seconds, place_within, segment_in_span}
 
 module _ (s : Series) (e : Accepted s) {t : ℤ} (low : s.start ≤ℤ t) (high : t <ℤ last_second s) where
   known : Facts s

@@ -13,7 +13,7 @@ use Rattle.months.specs.declared.SuiDays.{SuiDays}
 use Rattle.months.specs.declared.Sui.{Sui}
 use Rattle.months.specs.Limits.{year_in_range}
 use Rattle.months.specs.Months.{first_solstice, by_first, is_missing, moon_missing, days_of}
-use Rattle.months.specs.theory.Days.{days_missing}
+use Rattle.months.proofs.theory.Days.{days_missing}
 use Rattle.turns.specs.theory.Counting.{by_small}
 use Rattle.turns.specs.Listed.{turn_index_of, turn_day, turn_days, turns_by, turns_of}
 use Rattle.sui.specs.Sui.{sui_days, sui_of_year}

@@ -11,9 +11,9 @@ use Rattle.inputs.specs.Inputs.{Inputs, sun, moon, day_of_mark}
 use Rattle.inputs.specs.Known.{Known}
 use Rattle.months.specs.declared.Sui.{Sui}
 use Rattle.months.specs.Months.{first_solstice, second_solstice, by_first, by_second, month_count, days_of, sui_of}
-use Rattle.months.specs.theory.Listed.{at_most_thirteen}
-use Rattle.months.specs.theory.Days.{found_months, found_listed, found_count}
-use Rattle.months.specs.theory.Suis.{sui_count_lem}
+use Rattle.months.proofs.theory.Listed.{at_most_thirteen}
+use Rattle.months.proofs.theory.Days.{found_months, found_listed, found_count}
+use Rattle.months.proofs.theory.Suis.{sui_count_lem}
 use Rattle.turns.specs.Listed.{turn_index_of, turn_day, turn_days, turns_by, turns_of, turn_days_rise}
 use Rattle.sui.specs.Sui.{sui_days, sui_of_year}
 use Rattle.sui.specs.theory.Answered.{days_found_lem}

@@ -13,7 +13,7 @@ use Rattle.whole.specs.Distance.{clash}
 use Rattle.whole.specs.Solver.{le_yes, le_no}
 use Rattle.whole.specs.Tabulated.{tabulate, length_tabulate}
 use Rattle.months.specs.Months.{not_after}
-use Rattle.months.specs.theory.Listed.{not_after_small}
+use Rattle.months.proofs.theory.Listed.{not_after_small}
 
 -- each is not after those behind it
 abbrev pub Rises : (ℕ → ℤ) → ℕ → Type 0

@@ -13,7 +13,7 @@ use Rattle.whole.specs.Solver.{lt_yes, lt_no}
 use Rattle.whole.specs.Distance.{distance_from}
 use Rattle.series.specs.Series.{Series, series, last_second}
 use Rattle.series.specs.Acceptance.{Accepted}
-use Rattle.series.specs.theory.Span.{start_in_span, second_fits}
+use Rattle.series.proofs.theory.Span.{start_in_span, second_fits}
 use Rattle.marks.specs.Listed.{reached_at}
 use Rattle.walk.specs.theory.Turns.{counted_none, next_in_span, falls, counted_more, counted_same, counted_all, marks_few}
 use Rattle.walk.proofs.count.Goals as goal

@@ -9,7 +9,7 @@ use Rattle.whole.specs.Distance.{distance_from, one_nearer}
 use Rattle.series.specs.Bodies.{numbers}
 use Rattle.series.specs.Series.{Series, InSpan, value_at, last_second}
 use Rattle.series.specs.Acceptance.{Accepted}
-use Rattle.series.specs.theory.Span.{start_in_span, span_few}
+use Rattle.series.proofs.theory.Span.{start_in_span, span_few}
 use Rattle.marks.specs.Marks.{Mark}
 use Rattle.marks.specs.Crossings.{marked}
 use Rattle.marks.specs.Listed.{marks_between, listed_marks, reached_at}

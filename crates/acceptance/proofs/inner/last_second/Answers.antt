@@ -8,7 +8,7 @@ use mir.Val.{of_z, to_z}
 use Rattle.whole.specs.Ranges.{back}
 use Rattle.series.specs.Bodies.{body_laws}
 use Rattle.series.specs.Series.{series, segments, segment_length, segment_start}
-use Rattle.series.specs.theory.Span.{span_short, end_fits, last_fits}
+use Rattle.series.proofs.theory.Span.{span_short, end_fits, last_fits}
 use Rattle.acceptance.proofs.inner.last_second.Goals as goal
 use Rattle.acceptance.proofs.inner.last_second.Goals.{After-add-end, After-signed}
 

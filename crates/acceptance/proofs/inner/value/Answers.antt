@@ -8,9 +8,9 @@ use mir.Val.{of_z, to_z}
 use Rattle.whole.specs.Ranges.{back}
 use Rattle.whole.specs.Distance.{distance_from}
 use Rattle.series.specs.Series.{series, segment_length, segment_at, place_at, value_at}
-use Rattle.series.specs.theory.Known.{facts, segment_length_lem}
+use Rattle.series.proofs.theory.Known.{facts, segment_length_lem}
 use Rattle.series.specs.theory.Place.{place_after, place_by_remainder}
-use Rattle.series.specs.theory.Span.{span_short, distance_in_span, segment_in_span, place_in_span}
+use Rattle.series.proofs.theory.Span.{span_short, distance_in_span, segment_in_span, place_in_span}
 use Rattle.acceptance.proofs.inner.value.Goals as goal
 use Rattle.acceptance.proofs.inner.value.Goals.{After-distance-seconds, After-place_after, After-segment_after, Start}
 

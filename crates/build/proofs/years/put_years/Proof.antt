@@ -13,7 +13,7 @@ use Rattle.whole.specs.Ranges.{Within, fits<, bounds, back}
 use Rattle.refusals.specs.Verdict.{Verdict, answered, refusal, answer_or_refusal}
 use Rattle.inputs.specs.Inputs.{Inputs, inputs, sun}
 use Rattle.refusals.specs.declared.Refusal.{Refusal}
-use Rattle.months.specs.theory.Kept as Kept
+use Rattle.months.proofs.theory.Kept as Kept
 use Rattle.months.specs.declared.Sui.{Sui}
 use Rattle.turns.specs.Listed.{turns_few}
 use Rattle.sui.specs.Sui.{sui_of_year}

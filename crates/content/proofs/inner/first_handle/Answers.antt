@@ -5,7 +5,7 @@ use mir.Facts.{to_z-of_z}
 use Rattle.whole.specs.Ranges.{back}
 use Rattle.months.specs.declared.Month.{Month}
 use Rattle.months.specs.Handles.{handle_at, month_of}
-use Rattle.content.specs.theory.Judged.{ordinary_at}
+use Rattle.content.proofs.theory.Judged.{ordinary_at}
 use Rattle.content.proofs.inner.first_handle.Goals as goal
 
 pub returns : goal.returns

@@ -3,7 +3,7 @@ use mathlib.Core.Path.{◌≡◌, sym, ◌∙◌}
 use lib.IntN.{pos}
 use mir.Facts.{to_z-of_z}
 use Rattle.whole.specs.Tests.{in_range, is_exactly}
-use Rattle.content.specs.theory.Judged.{year_out, year_not_due, count_decides}
+use Rattle.content.proofs.theory.Judged.{year_out, year_not_due, count_decides}
 use Rattle.content.proofs.inner.good_sui.Goals as goal
 use Rattle.content.proofs.inner.good_sui.Goals.{After-in_range, After-in_range-2}
 

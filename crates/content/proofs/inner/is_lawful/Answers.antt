@@ -4,7 +4,7 @@ use mathlib.Core.Bool.{true}
 use lib.ListN.{length}
 use Rattle.clock.specs.Leap.{leap_lawful}
 use Rattle.content.specs.Content.{whole_suis}
-use Rattle.content.specs.theory.Walk.{leap_broken, suis_broken, suis_decide}
+use Rattle.content.proofs.theory.Walk.{leap_broken, suis_broken, suis_decide}
 use Rattle.content.proofs.inner.is_lawful.Goals as goal
 use Rattle.content.proofs.inner.is_lawful.Goals.{After-whole_suis, Else-not-whole_suis}
 

@@ -7,7 +7,7 @@ use mir.Facts.{to_z-of_z}
 use Rattle.whole.specs.Ranges.{fits, bounds, back}
 use Rattle.whole.specs.Tests.{is_exactly}
 use Rattle.content.specs.Steps.{days_after, ordinary, leap_handle, handle_after}
-use Rattle.content.specs.theory.Judged.{ordinary_small, days_say, days_stop, ordinary_on, handle_stops, leap_on}
+use Rattle.content.proofs.theory.Judged.{ordinary_small, days_say, days_stop, ordinary_on, handle_stops, leap_on}
 use Rattle.content.proofs.inner.judge_month.Goals as goal
 use Rattle.content.proofs.inner.judge_month.Goals.{After-add-behind, After-good_days, After-in_range, After-leap_handle, Else-not-good_days}
 

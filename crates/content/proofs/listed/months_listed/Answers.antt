@@ -18,7 +18,7 @@ use Rattle.whole.specs.Solver.{⇑, ⇓, ring}
 use Rattle.whole.specs.Ranges.{back}
 use Rattle.content.specs.Content.{month_at}
 use Rattle.content.specs.Steps.{ordinary, walked_on}
-use Rattle.content.specs.theory.Walk.{MonthsSoFar, no_month_yet, month_next, month_stops, leaps_decide}
+use Rattle.content.proofs.theory.Walk.{MonthsSoFar, no_month_yet, month_next, month_stops, leaps_decide}
 use Rattle.content.proofs.listed.months_listed.Goals as goal
 use Rattle.content.proofs.listed.months_listed.Goals.{After-count-n, After-judge_month-walked, At-loop-place, In-loop-place}
 

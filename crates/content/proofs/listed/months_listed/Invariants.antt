@@ -1,6 +1,6 @@
 -- `content::listed::months_listed` meets its contract. Assumes nothing.
 use Prim.Native.Nat.{◌-◌}
-use Rattle.content.specs.theory.Walk.{MonthsSoFar}
+use Rattle.content.proofs.theory.Walk.{MonthsSoFar}
 use Rattle.content.proofs.listed.months_listed.Given as goal
 
 abbrev pub invariant-loop-place : goal.invariant-loop-place

@@ -16,7 +16,8 @@ use Rattle.whole.specs.Laws.{≤_trans}
 use Rattle.whole.specs.Ranges.{fits, bounds, back}
 use Rattle.content.specs.Content.{year_at, count_at, good_months}
 use Rattle.content.specs.Steps.{sui_after}
-use Rattle.content.specs.theory.Walk.{Due, first_due, no_sui_yet, no_months, no_date, year_small, count_12_or_13, count_range, sui_stops, months_run_out, months_stop, sui_next, months_left_over, whole_some}
+use Rattle.content.specs.theory.Walk.{Due}
+use Rattle.content.proofs.theory.Walk.{first_due, no_sui_yet, no_months, no_date, year_small, count_12_or_13, count_range, sui_stops, months_run_out, months_stop, sui_next, months_left_over, whole_some}
 use Rattle.content.proofs.listed.suis_listed.Goals as goal
 use Rattle.content.proofs.listed.suis_listed.Goals.{After-count, After-good_sui, After-months_listed-judged, At-loop-i, Else-not-good_sui, In-loop-i, Start}
 

@@ -1,6 +1,6 @@
 -- `content::listed::suis_listed` meets its contract. Assumes nothing.
 use Prim.Native.Nat.{◌-◌}
-use Rattle.content.specs.theory.Walk.{SuisSoFar}
+use Rattle.content.proofs.theory.Walk.{SuisSoFar}
 use Rattle.content.proofs.listed.suis_listed.Given as goal
 
 abbrev pub invariant-loop-i : goal.invariant-loop-i

@@ -8,7 +8,7 @@ use mir.Facts.{to_z-of_z}
 use Rattle.whole.specs.Ranges.{Within, fits, bounds, back}
 use Rattle.whole.specs.Solver.{⇑, ⇓, ring}
 use Rattle.whole.specs.Tests.{in_range, is_exactly, in_range_says, exactly_says}
-use Rattle.content.specs.theory.Judged.{not_due, length_bad, last_decides}
+use Rattle.content.proofs.theory.Judged.{not_due, length_bad, last_decides}
 use Rattle.content.proofs.month.good_days.Goals as goal
 use Rattle.content.proofs.month.good_days.Goals.{After-add-behind, After-in_range, After-in_range-2, Else-not-in_range, Else-not-in_range-2}
 

@@ -4,7 +4,8 @@ use lib.IntN.{pos, ◌+ℤ◌, ◌*ℤ◌}
 use mir.Facts.{to_z-of_z}
 use Rattle.whole.specs.Ranges.{fits, bounds, bound_back, back}
 use Rattle.whole.specs.Tests.{is_exactly}
-use Rattle.content.specs.theory.Judged.{after_twelfth, after_other}
+use Rattle.content.specs.theory.Judged.{after_twelfth}
+use Rattle.content.proofs.theory.Judged.{after_other}
 use Rattle.content.proofs.month.handle_after.Goals as goal
 use Rattle.content.proofs.month.handle_after.Goals.{After-in_range}
 

@@ -3,7 +3,7 @@ use mathlib.Core.Path.{◌≡◌, sym, ◌∙◌}
 use lib.IntN.{pos}
 use mir.Facts.{to_z-of_z}
 use Rattle.whole.specs.Tests.{is_exactly}
-use Rattle.content.specs.theory.Judged.{not_of_13, leap_before, leap_first, leap_is}
+use Rattle.content.proofs.theory.Judged.{not_of_13, leap_before, leap_first, leap_is}
 use Rattle.content.proofs.month.leap_handle.Goals as goal
 use Rattle.content.proofs.month.leap_handle.Goals.{After-in_range}
 

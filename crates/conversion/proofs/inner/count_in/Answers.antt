@@ -2,7 +2,7 @@
 use mathlib.Core.Path.{◌≡◌, ap, ◌∙◌}
 use mir.Facts.{to_z-of_z}
 use Rattle.clock.specs.Clock.{reading, read_off, count_in}
-use Rattle.clock.specs.theory.Sizes.{reading_small}
+use Rattle.clock.proofs.theory.Sizes.{reading_small}
 use Rattle.conversion.proofs.inner.count_in.Goals as goal
 use Rattle.conversion.proofs.inner.count_in.Goals.{After-reading}
 

@@ -2,7 +2,7 @@
 use mathlib.Core.Path.{ap}
 use mathlib.Core.Bool.{not}
 use Rattle.clock.specs.Clock.{early}
-use Rattle.clock.specs.theory.Table.{some}
+use Rattle.clock.proofs.theory.Table.{some}
 use Rattle.conversion.proofs.inner.early.Goals as goal
 
 pub holds-requires : goal.holds-requires

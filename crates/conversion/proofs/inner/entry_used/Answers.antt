@@ -1,6 +1,6 @@
 -- `conversion::inner::entry_used` meets its contract. The loop's invariant: `low` holds by then, and nothing from `high` on does. Assumes nothing.
 use native.Mathlib.Omega.{arith}
-use Rattle.clock.specs.theory.Used.{bracket, raise, lower, found}
+use Rattle.clock.proofs.theory.Used.{bracket, raise, lower, found}
 use mathlib.Core.Path.{sym, ◌∙◌}
 use Rattle.conversion.proofs.inner.entry_used.Goals as goal
 

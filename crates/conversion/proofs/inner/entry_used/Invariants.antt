@@ -1,6 +1,6 @@
 -- `conversion::inner::entry_used` meets its contract. The loop's invariant: `low` holds by then, and nothing from `high` on does. Assumes nothing.
 use Prim.Native.Nat.{◌-◌}
-use Rattle.clock.specs.theory.Used.{Bracket}
+use Rattle.clock.proofs.theory.Used.{Bracket}
 use Rattle.conversion.proofs.inner.entry_used.Given as goal
 
 abbrev pub invariant-loop-low : goal.invariant-loop-low

@@ -4,7 +4,7 @@ use mir.Syntax.{w64}
 use mir.Val.{SFits}
 use mir.Facts.{to_z-of_z}
 use Rattle.clock.specs.Leap.{day, offset, holds_from}
-use Rattle.clock.specs.theory.Table.{day_small, offset_small}
+use Rattle.clock.proofs.theory.Table.{day_small, offset_small}
 use Rattle.conversion.proofs.inner.holds_from.Goals as goal
 
 pub moment_of-requires : goal.moment_of-requires

@@ -5,8 +5,8 @@ use native.Mathlib.Numerals.{add-one}
 use Prim.Native.Nat.{ℕ}
 use mir.Facts.{to_z-of_z}
 use Rattle.whole.specs.Ranges.{fits, bounds, back}
-use Rattle.clock.specs.theory.Used.{Used, used}
-use Rattle.clock.specs.theory.Inserted.{last_inserts_nothing, next_decides}
+use Rattle.clock.proofs.theory.Used.{Used, used}
+use Rattle.clock.proofs.theory.Inserted.{last_inserts_nothing, next_decides}
 use Rattle.conversion.proofs.inner.inserted.Goals as goal
 use Rattle.conversion.proofs.inner.inserted.Goals.{Start}
 

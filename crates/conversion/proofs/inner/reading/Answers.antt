@@ -6,9 +6,9 @@ use mir.Facts.{to_z-of_z}
 use Rattle.whole.specs.Ranges.{back}
 use Rattle.clock.specs.Leap.{offset, entry_used}
 use Rattle.clock.specs.Clock.{tai, reading}
-use Rattle.clock.specs.theory.Used.{used}
-use Rattle.clock.specs.theory.Sizes.{tai_small, offset_used_small}
-use Rattle.clock.specs.theory.Judged.{first_holds}
+use Rattle.clock.proofs.theory.Used.{used}
+use Rattle.clock.proofs.theory.Sizes.{tai_small, offset_used_small}
+use Rattle.clock.proofs.theory.Judged.{first_holds}
 use Rattle.conversion.proofs.inner.reading.Goals as goal
 use Rattle.conversion.proofs.inner.reading.Goals.{After-entry_used-i, After-offset_at-offset}
 

@@ -2,7 +2,7 @@
 use mathlib.Core.Path.{◌≡◌, ap, ◌∙◌}
 use mir.Facts.{to_z-of_z}
 use Rattle.clock.specs.Clock.{reading, count_in, day_in, shown_by, shown_in}
-use Rattle.clock.specs.theory.Sizes.{reading_small, reading_has_date}
+use Rattle.clock.proofs.theory.Sizes.{reading_small, reading_has_date}
 use Rattle.conversion.proofs.inner.shown_in.Goals as goal
 use Rattle.conversion.proofs.inner.shown_in.Goals.{After-reading}
 

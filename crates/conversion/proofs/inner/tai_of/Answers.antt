@@ -3,7 +3,7 @@ use native.Mathlib.Omega.{arith}
 use mir.Facts.{to_z-of_z}
 use Rattle.whole.specs.Ranges.{fits, bounds, bound_back, back}
 use Rattle.clock.specs.Clock.{tai}
-use Rattle.clock.specs.theory.Sizes.{second_small}
+use Rattle.clock.proofs.theory.Sizes.{second_small}
 use Rattle.conversion.proofs.inner.tai_of.Goals as goal
 
 pub overflow_mul-result : goal.overflow_mul-result

@@ -4,7 +4,7 @@ use native.Mathlib.Omega.{arith}
 use Rattle.refusals.specs.Verdict.{refused_first, accepted_first, accepted_is}
 use Rattle.series.specs.Series.{series, segments}
 use Rattle.series.specs.Acceptance.{series_judged}
-use Rattle.series.specs.theory.Known.{shape_known}
+use Rattle.series.proofs.theory.Known.{shape_known}
 use Rattle.corrected.specs.theory.Judged.{around_changed, segments_accepted, judged_by_part}
 use Rattle.corrected.proofs.inner.accept_again.Goals as goal
 

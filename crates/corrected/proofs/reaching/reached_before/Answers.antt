@@ -6,7 +6,7 @@ use mir.Syntax.{w64}
 use mir.Val.{of_z, to_z}
 use Rattle.whole.specs.Ranges.{back}
 use Rattle.series.specs.Series.{Series, series, segment_start, InSpan}
-use Rattle.series.specs.theory.Span.{second_fits}
+use Rattle.series.proofs.theory.Span.{second_fits}
 use Rattle.corrected.specs.theory.Values.{last_in_span}
 use Rattle.corrected.specs.theory.Kept.{reached_before, reached_before_some}
 use Rattle.corrected.proofs.reaching.reached_before.Goals as goal

@@ -5,9 +5,9 @@ use mir.Syntax.{w64}
 use mir.Val.{to_z, of_z}
 use Rattle.whole.specs.Ranges.{back}
 use Rattle.dates.specs.Calendar.{new_year, year_of, date_for}
-use Rattle.dates.specs.theory.Years.{year_found}
-use Rattle.dates.specs.theory.Days.{days_over, day_within}
-use Rattle.dates.specs.theory.Sizes.{range_small, year_small, year_sum}
+use Rattle.dates.proofs.theory.Years.{year_found}
+use Rattle.dates.proofs.theory.Days.{days_over, day_within}
+use Rattle.dates.proofs.theory.Sizes.{range_small, year_small, year_sum}
 use Rattle.dates.proofs.inner.date_for.Goals as goal
 use Rattle.dates.proofs.inner.date_for.Goals.{After-new_year-first, After-year_of-year, After-distance}
 

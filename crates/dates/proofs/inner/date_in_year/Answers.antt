@@ -8,9 +8,9 @@ use lib.ListN.{take}
 use mir.Facts.{to_z-of_z}
 use Rattle.whole.specs.Ranges.{back}
 use Rattle.dates.specs.Calendar.{leap_year, lengths_in, total, months_over, date_in_year}
-use Rattle.dates.specs.theory.Months.{InMonth, month_found}
-use Rattle.dates.specs.theory.Days.{twelve}
-use Rattle.dates.specs.theory.Sizes.{year_sum}
+use Rattle.dates.proofs.theory.Months.{InMonth, month_found}
+use Rattle.dates.proofs.theory.Days.{twelve}
+use Rattle.dates.proofs.theory.Sizes.{year_sum}
 use Rattle.dates.proofs.inner.date_in_year.Goals as goal
 use Rattle.dates.proofs.inner.date_in_year.Goals.{After-days_of-before, After-lengths_in-lengths, After-months_over-over}
 

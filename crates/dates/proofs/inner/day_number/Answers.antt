@@ -6,8 +6,8 @@ use mir.Syntax.{w64}
 use mir.Val.{to_z, of_z}
 use Rattle.whole.specs.Ranges.{back}
 use Rattle.dates.specs.Calendar.{new_year, days_before, number_of}
-use Rattle.dates.specs.theory.Days.{Valid, valid_says}
-use Rattle.dates.specs.theory.Sizes.{before_small, day_small, new_year_small}
+use Rattle.dates.proofs.theory.Days.{Valid, valid_says}
+use Rattle.dates.proofs.theory.Sizes.{before_small, day_small, new_year_small}
 use Rattle.dates.proofs.inner.day_number.Goals as goal
 use Rattle.dates.proofs.inner.day_number.Goals.{After-days_before, After-new_year-first, Start}
 

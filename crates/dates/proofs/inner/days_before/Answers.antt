@@ -9,9 +9,9 @@ use mir.Facts.{to_z-of_z}
 use Rattle.whole.specs.Parts.{ℤ_rules}
 use Rattle.whole.specs.Ranges.{back}
 use Rattle.dates.specs.Calendar.{leap_year, lengths_in, total, days_before}
-use Rattle.dates.specs.theory.Months.{take_below}
-use Rattle.dates.specs.theory.Days.{twelve}
-use Rattle.dates.specs.theory.Sizes.{year_sum}
+use Rattle.dates.proofs.theory.Months.{take_below}
+use Rattle.dates.proofs.theory.Days.{twelve}
+use Rattle.dates.proofs.theory.Sizes.{year_sum}
 use Rattle.dates.proofs.inner.days_before.Goals as goal
 use Rattle.dates.proofs.inner.days_before.Goals.{After-count-i, After-days_of, After-lengths_in-lengths}
 

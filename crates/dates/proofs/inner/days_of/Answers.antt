@@ -5,7 +5,7 @@ use native.Mathlib.Omega.{arith}
 use native.Mathlib.Numerals.{add-one}
 use lib.ListN.{take}
 use Rattle.dates.specs.Calendar.{total}
-use Rattle.dates.specs.theory.Months.{take_next, take_below}
+use Rattle.dates.proofs.theory.Months.{take_next, take_below}
 use Rattle.dates.proofs.inner.days_of.Goals as goal
 
 pub loop-i-init : goal.loop-i-init

@@ -4,7 +4,8 @@ use mir.Syntax.{w64}
 use mir.Val.{to_z, of_z}
 use mir.Facts.{to_z-of_z}
 use Rattle.whole.specs.Ranges.{fits, bounds, back}
-use Rattle.whole.specs.Floor.{floor_div, bound_floor}
+use Rattle.whole.specs.Floor.{floor_div}
+use Rattle.whole.proofs.Floor.{bound_floor}
 use Rattle.dates.specs.Calendar.{leap_years_to}
 use Rattle.dates.proofs.inner.leap_years_to.Goals as goal
 use Rattle.dates.proofs.inner.leap_years_to.Goals.{After-floor_div, After-floor_div-2, After-floor_div-3}

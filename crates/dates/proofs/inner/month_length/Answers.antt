@@ -7,7 +7,7 @@ use mir.Facts.{to_z-of_z}
 use Rattle.whole.specs.Parts.{ℤ_rules}
 use Rattle.whole.specs.Ranges.{back}
 use Rattle.dates.specs.Calendar.{lengths_in, month_length}
-use Rattle.dates.specs.theory.Sizes.{month_small}
+use Rattle.dates.proofs.theory.Sizes.{month_small}
 use Rattle.dates.proofs.inner.month_length.Goals as goal
 use Rattle.dates.proofs.inner.month_length.Goals.{After-count-i, After-lengths_in-lengths}
 

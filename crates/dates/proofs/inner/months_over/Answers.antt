@@ -6,7 +6,7 @@ use native.Mathlib.Omega.{arith}
 use native.Mathlib.Numerals.{add-one}
 use lib.ListN.{get_or, drop}
 use Rattle.dates.specs.Calendar.{months_over}
-use Rattle.dates.specs.theory.Months.{over_stops, over_goes_on, over_ends}
+use Rattle.dates.proofs.theory.Months.{over_stops, over_goes_on, over_ends}
 use Rattle.dates.proofs.inner.months_over.Goals as goal
 
 pub loop-over-init : goal.loop-over-init

@@ -6,7 +6,7 @@ use mir.Val.{to_z, of_z}
 use mir.Facts.{to_z-of_z}
 use Rattle.whole.specs.Ranges.{Within, fits, within, bounds, bound_back, back}
 use Rattle.dates.specs.Calendar.{leap_years_to, new_year}
-use Rattle.dates.specs.theory.Sizes.{leap_years_small}
+use Rattle.dates.proofs.theory.Sizes.{leap_years_small}
 use Rattle.dates.proofs.inner.new_year.Goals as goal
 use Rattle.dates.proofs.inner.new_year.Goals.{After-leap_years_to}
 

@@ -6,7 +6,7 @@ use mir.Val.{to_z, of_z}
 use mir.Facts.{to_z-of_z}
 use Rattle.whole.specs.Ranges.{fits, within, bounds, back}
 use Rattle.dates.specs.Calendar.{new_year, year_or_next, year_of}
-use Rattle.dates.specs.theory.Sizes.{near_small}
+use Rattle.dates.proofs.theory.Sizes.{near_small}
 use Rattle.dates.proofs.inner.year_of.Goals as goal
 use Rattle.dates.proofs.inner.year_of.Goals.{After-new_year-first, After-struct_told-2-1, After-year_or_next-near}
 

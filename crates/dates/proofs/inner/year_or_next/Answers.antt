@@ -5,7 +5,8 @@ use mir.Syntax.{w64}
 use mir.Val.{to_z, of_z}
 use mir.Facts.{to_z-of_z}
 use Rattle.whole.specs.Ranges.{fits, bounds, bound_back, back}
-use Rattle.whole.specs.Floor.{floor_div, bound_floor}
+use Rattle.whole.specs.Floor.{floor_div}
+use Rattle.whole.proofs.Floor.{bound_floor}
 use Rattle.dates.specs.Calendar.{year_or_next}
 use Rattle.dates.proofs.inner.year_or_next.Goals as goal
 use Rattle.dates.proofs.inner.year_or_next.Goals.{After-floor_div}

@@ -4,7 +4,8 @@ use mathlib.Core.List.{[], ◌∷◌}
 use native.Mathlib.Omega.{arith}
 use lib.IntN.{ℤ, pos, ◌*ℤ◌}
 use Rattle.whole.specs.Ranges.{fits, within, bounds, bound_back, bound_eq}
-use Rattle.whole.specs.Floor.{floor_div, bound_floor}
+use Rattle.whole.specs.Floor.{floor_div}
+use Rattle.whole.proofs.Floor.{bound_floor}
 use Rattle.whole.specs.Solver.{⇑, ⇓, ring, value_of}
 use Rattle.chebyshev.specs.Polynomials.{S}
 use Rattle.evaluator.proofs.inner.next.Goals as goal

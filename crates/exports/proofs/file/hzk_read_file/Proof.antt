@@ -2,7 +2,7 @@
 use borrow.Author.Rules.{rules}
 use lib.ListN.{length}
 use Rattle.almanac.specs.Answers.{paper_file}
-use Rattle.almanac.specs.theory.Reader.{Promises}
+use Rattle.almanac.proofs.theory.Reader.{Promises}
 use Rattle.exports.specs.theory.File.{read_fits}
 use Rattle.answers.specs.Record.{file_numbers}
 use Rattle.exports.proofs.Told.{told}

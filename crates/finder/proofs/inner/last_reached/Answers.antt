@@ -2,7 +2,7 @@
 use mathlib.Core.Path.{◌∙◌}
 use Rattle.whole.specs.Ranges.{back}
 use Rattle.series.specs.Series.{series}
-use Rattle.series.specs.theory.Span.{last_in_span}
+use Rattle.series.proofs.theory.Span.{last_in_span}
 use Rattle.finder.proofs.inner.last_reached.Goals as goal
 
 pub index_at-requires : goal.index_at-requires

@@ -1,6 +1,6 @@
 -- `guess::inner::ahead` meets its contract. Assumes nothing.
 use Rattle.whole.specs.Ranges.{Within, fits, within, within≤, bounds, bound_back, bound_eq}
-use Rattle.whole.specs.Floor.{bound_floor}
+use Rattle.whole.proofs.Floor.{bound_floor}
 use native.Mathlib.Omega.{arith}
 use Rattle.guess.proofs.inner.ahead.Goals as goal
 use Rattle.guess.proofs.inner.ahead.Goals.{After-floor_div, After-signed}

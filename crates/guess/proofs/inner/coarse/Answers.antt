@@ -1,6 +1,6 @@
 -- `guess::inner::coarse` meets its contract. Assumes nothing.
 use native.Mathlib.Omega.{arith}
-use Rattle.whole.specs.Division.{shr_back}
+use Rattle.whole.proofs.Division.{shr_back}
 use Rattle.guess.proofs.Sizes.{floor_small}
 use Rattle.guess.proofs.inner.coarse.Goals as goal
 

@@ -1,7 +1,7 @@
 -- `guess::inner::times` meets its contract. Assumes nothing.
 use mir.Facts.{to_z-of_z}
 use Rattle.whole.specs.Ranges.{fits, bounds}
-use Rattle.whole.specs.Division.{shr_back}
+use Rattle.whole.proofs.Division.{shr_back}
 use Rattle.guess.proofs.Sizes.{doubled}
 use Rattle.guess.proofs.inner.times.Goals as goal
 

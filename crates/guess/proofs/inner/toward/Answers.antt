@@ -1,7 +1,7 @@
 -- `guess::inner::toward` meets its contract. Assumes nothing.
 use native.Mathlib.Omega.{arith}
 use Rattle.whole.specs.Ranges.{Within, fits, within, within≤, bounds, bound_back, bound_eq}
-use Rattle.whole.specs.Floor.{bound_floor}
+use Rattle.whole.proofs.Floor.{bound_floor}
 use Rattle.guess.proofs.Sizes.{bound_raised}
 use Rattle.guess.proofs.inner.toward.Goals as goal
 use Rattle.guess.proofs.inner.toward.Goals.{After-at_least-half, After-floor_div-steps, After-signed}

@@ -16,8 +16,8 @@ use Rattle.whole.specs.Solver.{⇑, ⇓, ring, le_yes}
 use Rattle.times.specs.declared.Second.{Second}
 use Rattle.times.specs.declared.Milli.{Milli}
 use Rattle.clock.specs.Clock.{Readable, count_in, day_of_milli, day_in}
-use Rattle.clock.specs.Theorems.{goes_on_holding}
-use Rattle.clock.specs.theory.Sizes.{second_small}
+use Rattle.clock.proofs.Theorems.{goes_on_holding}
+use Rattle.clock.proofs.theory.Sizes.{second_small}
 use Rattle.series.specs.Series.{Series, series}
 use Rattle.marks.specs.Stretch.{Enclosed}
 use Rattle.marks.specs.Listed.{second_of_mark}

@@ -8,13 +8,14 @@ use mir.Val.{of_z, to_z}
 use mir.Facts.{to_z-of_z}
 use Rattle.whole.specs.Parts.{◌⩽◌, ◌≺◌}
 use Rattle.whole.specs.Laws.{≤_of-≡, ≤_trans, <→≤}
-use Rattle.whole.specs.Floor.{floor_div, bound_floor}
+use Rattle.whole.specs.Floor.{floor_div}
+use Rattle.whole.proofs.Floor.{bound_floor}
 use Rattle.whole.specs.Ranges.{Within, within, fits, back, fit_hyp, bounds}
 use Rattle.whole.specs.Solver.{⇑, ⇓, ring, le_yes, le_no}
 use Rattle.series.specs.Bodies.{numbers}
 use Rattle.series.specs.Series.{Series, series, InSpan, value_at, last_second}
-use Rattle.series.specs.Theorems.{accepted_rises}
-use Rattle.series.specs.theory.Span.{span_ordered, value_in_span}
+use Rattle.series.proofs.Theorems.{accepted_rises}
+use Rattle.series.proofs.theory.Span.{span_ordered, value_in_span}
 use Rattle.marks.specs.Listed.{MarkAt, second_of_mark}
 use Rattle.marks.specs.Theorems.{located_crossing}
 use Rattle.marks.specs.theory.Slope.{mark_ahead, mark_behind}

@@ -3,8 +3,8 @@ use mathlib.Core.Path.{refl}
 use mir.Facts.{to_z-of_z}
 use Rattle.whole.specs.Ranges.{within, back, fit_hyp, bounds}
 use Rattle.series.specs.Series.{Series, series, last_second}
-use Rattle.series.specs.Theorems.{accepted_rises}
-use Rattle.series.specs.theory.Span.{span_ordered}
+use Rattle.series.proofs.Theorems.{accepted_rises}
+use Rattle.series.proofs.theory.Span.{span_ordered}
 use Rattle.marks.specs.Stretch.{Around}
 use Rattle.locator.proofs.Bracket.{whole_span}
 use Rattle.locator.proofs.Around.{second_small, mark_small}

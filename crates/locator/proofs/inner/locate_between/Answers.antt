@@ -14,8 +14,8 @@ use Rattle.whole.specs.Distance.{distance_from, between_fits}
 use Rattle.series.specs.Bodies.{numbers}
 use Rattle.series.specs.Series.{Series, series, InSpan, value_at}
 use Rattle.series.specs.Acceptance.{Accepted}
-use Rattle.series.specs.Theorems.{accepted_rises}
-use Rattle.series.specs.theory.Span.{span_few, second_fits, value_in_span}
+use Rattle.series.proofs.Theorems.{accepted_rises}
+use Rattle.series.proofs.theory.Span.{span_few, second_fits, value_in_span}
 use Rattle.marks.specs.Stretch.{BracketOf}
 use Rattle.finder.proofs.Halves.{Inside}
 use Rattle.locator.proofs.Bracket.{inside_at, upper, lower, upper_falls, lower_falls, found, part_of_lem, values_near, seconds_few}

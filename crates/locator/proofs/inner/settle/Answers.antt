@@ -7,8 +7,8 @@ use mir.Facts.{to_z-of_z}
 use Rattle.whole.specs.Laws.{<→≤}
 use Rattle.whole.specs.Ranges.{back}
 use Rattle.series.specs.Series.{Series, series}
-use Rattle.series.specs.Theorems.{accepted_rises}
-use Rattle.series.specs.theory.Span.{span_few}
+use Rattle.series.proofs.Theorems.{accepted_rises}
+use Rattle.series.proofs.theory.Span.{span_few}
 use Rattle.locator.proofs.Bracket.{found, seconds_few}
 use Rattle.locator.proofs.Around.{lo_in_span, hi_in_span}
 use Rattle.locator.proofs.inner.settle.Goals as goal

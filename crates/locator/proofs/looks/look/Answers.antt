@@ -8,7 +8,7 @@ use Rattle.whole.specs.Ranges.{fits, fit_hyp, back, bounds}
 use Rattle.whole.specs.Solver.{lt_yes, lt_no, le_no}
 use Rattle.series.specs.Bodies.{numbers}
 use Rattle.series.specs.Series.{Series, series, InSpan, value_at}
-use Rattle.series.specs.theory.Span.{value_in_span}
+use Rattle.series.proofs.theory.Span.{value_in_span}
 use Rattle.finder.proofs.Halves.{Inside}
 use Rattle.locator.proofs.Bracket.{upper, lower}
 use Rattle.locator.proofs.Around.{inside_in_span, mark_small}

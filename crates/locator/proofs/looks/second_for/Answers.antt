@@ -9,8 +9,8 @@ use Rattle.whole.specs.Ranges.{within, back, bounds}
 use Rattle.series.specs.Bodies.{body_laws}
 use Rattle.series.specs.Series.{Series, series, last_second}
 use Rattle.series.specs.Facts.{Facts}
-use Rattle.series.specs.theory.Known.{facts}
-use Rattle.series.specs.theory.Span.{span_ordered}
+use Rattle.series.proofs.theory.Known.{facts}
+use Rattle.series.proofs.theory.Span.{span_ordered}
 use Rattle.marks.specs.Stretch.{Searched}
 use Rattle.locator.proofs.Around.{searched}
 use Rattle.locator.proofs.looks.second_for.Goals as goal

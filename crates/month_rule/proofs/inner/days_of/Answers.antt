@@ -11,8 +11,8 @@ use mir.Val.{SFits}
 use mir.Facts.{to_z-of_z}
 use Rattle.months.specs.Months.{by_first, by_second, moon_missing, month_count, twelve_or_thirteen, days_found}
 use Rattle.months.specs.Answers.{days_answer}
-use Rattle.months.specs.theory.Listed.{at_most_thirteen}
-use Rattle.months.specs.theory.Days.{days_missing, days_other_count, days_are_found, some_listed}
+use Rattle.months.proofs.theory.Listed.{at_most_thirteen}
+use Rattle.months.proofs.theory.Days.{days_missing, days_other_count, days_are_found, some_listed}
 use Rattle.month_rule.proofs.inner.days_of.Goals as goal
 use Rattle.month_rule.proofs.inner.days_of.Goals.{After-month_count-n, After-moon_missing, After-not_after-by_second, After-twelve_or_thirteen, Else-not-twelve_or_thirteen}
 

@@ -6,7 +6,7 @@ use mir.Facts.{to_z-of_z}
 use borrow.Author.Rules.{rules}
 use Rattle.whole.specs.Ranges.{fits, bounds}
 use Rattle.months.specs.Handles.{handle_at, month_of}
-use Rattle.months.specs.theory.Numbering.{number_small, mark_small}
+use Rattle.months.proofs.theory.Numbering.{number_small, mark_small}
 use Rattle.month_rule.proofs.inner.month_of.Goals as goal
 
 pub handle-requires : goal.handle-requires

@@ -1,5 +1,5 @@
 -- `month_rule::inner::moon_missing` meets its contract. Assumes nothing.
-use Rattle.months.specs.theory.Listed.{none_first, some_first}
+use Rattle.months.proofs.theory.Listed.{none_first, some_first}
 use Rattle.month_rule.proofs.inner.moon_missing.Goals as goal
 
 pub returns-then-first-eq0 : goal.returns-then-first-eq0

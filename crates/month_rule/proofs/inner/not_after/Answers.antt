@@ -10,7 +10,7 @@ use mir.Syntax.{w64}
 use mir.Val.{SFits}
 use mir.Facts.{to_z-of_z}
 use Rattle.months.specs.Months.{not_after}
-use Rattle.months.specs.theory.Listed.{not_after_turn, not_after_end, not_after_small}
+use Rattle.months.proofs.theory.Listed.{not_after_turn, not_after_end, not_after_small}
 use Rattle.month_rule.proofs.inner.not_after.Goals as goal
 use Rattle.month_rule.proofs.inner.not_after.Goals.{After-counts-n, At-loop-i}
 

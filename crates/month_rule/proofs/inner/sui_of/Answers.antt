@@ -7,8 +7,8 @@ use mir.Facts.{to_z-of_z}
 use Prim.Native.Nat.{◌≤◌}
 use Rattle.months.specs.Months.{first_bad_month}
 use Rattle.months.specs.Answers.{sui_answer}
-use Rattle.months.specs.theory.Listed.{at_most_thirteen}
-use Rattle.months.specs.theory.Leap.{sui_bad_length, sui_numbered}
+use Rattle.months.proofs.theory.Listed.{at_most_thirteen}
+use Rattle.months.proofs.theory.Leap.{sui_bad_length, sui_numbered}
 use Rattle.month_rule.proofs.inner.sui_of.Goals as goal
 use Rattle.month_rule.proofs.inner.sui_of.Goals.{Else-first_bad_month-months, Start}
 

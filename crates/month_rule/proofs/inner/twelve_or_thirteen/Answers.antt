@@ -1,5 +1,5 @@
 -- `month_rule::inner::twelve_or_thirteen` meets its contract. Assumes nothing.
-use Rattle.months.specs.theory.Listed.{is_twelve, not_twelve}
+use Rattle.months.proofs.theory.Listed.{is_twelve, not_twelve}
 use Rattle.month_rule.proofs.inner.twelve_or_thirteen.Goals as goal
 
 pub returns-then-n-eq12 : goal.returns-then-n-eq12

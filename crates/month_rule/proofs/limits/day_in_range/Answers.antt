@@ -2,7 +2,7 @@
 use lib.IntN.{pos, negsuc}
 use mir.Facts.{to_z-of_z}
 use Rattle.months.specs.Limits.{day_in_range}
-use Rattle.months.specs.theory.Kept.{below, not_below}
+use Rattle.months.proofs.theory.Kept.{below, not_below}
 use Rattle.month_rule.proofs.limits.day_in_range.Goals as goal
 
 pub returns-then-day-ltminus200000 : goal.returns-then-day-ltminus200000

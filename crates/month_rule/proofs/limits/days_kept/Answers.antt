@@ -1,7 +1,7 @@
 -- `month_rule::limits::days_kept` meets its contract. Assumes nothing.
 use mathlib.Core.Path.{sym, ◌∙◌}
 use Rattle.months.specs.Limits.{rising, in_range, days_kept}
-use Rattle.months.specs.theory.Kept.{first_fails, first_passes}
+use Rattle.months.proofs.theory.Kept.{first_fails, first_passes}
 use Rattle.month_rule.proofs.limits.days_kept.Goals as goal
 
 pub returns-then-not-rising : goal.returns-then-not-rising

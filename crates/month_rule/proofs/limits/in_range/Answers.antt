@@ -10,7 +10,7 @@ use mir.Syntax.{w64}
 use mir.Val.{SFits}
 use mir.Facts.{to_z-of_z}
 use Rattle.months.specs.Limits.{in_range}
-use Rattle.months.specs.theory.Kept.{in_range_turn, in_range_end}
+use Rattle.months.proofs.theory.Kept.{in_range_turn, in_range_end}
 use Rattle.month_rule.proofs.limits.in_range.Goals as goal
 use Rattle.month_rule.proofs.limits.in_range.Goals.{After-day_in_range}
 

@@ -3,7 +3,7 @@ use mathlib.Core.Path.{◌≡◌, sym, ◌∙◌}
 use mathlib.Core.Bool.{true}
 use mir.Facts.{to_z-of_z}
 use Rattle.months.specs.Limits.{year_in_range, days_kept}
-use Rattle.months.specs.theory.Kept.{bad_year, too_many, bad_moons, by_zhongqi, not_thirteen}
+use Rattle.months.proofs.theory.Kept.{bad_year, too_many, bad_moons, by_zhongqi, not_thirteen}
 use Rattle.month_rule.proofs.limits.lists_kept.Goals as goal
 use Rattle.month_rule.proofs.limits.lists_kept.Goals.{After-year_in_range, Else-not-days_kept, Else-not-year_in_range}
 

@@ -8,7 +8,7 @@ use lib.ListN.{get_or}
 use mir.Syntax.{w64}
 use mir.Val.{SFits}
 use mir.Facts.{to_z-of_z}
-use Rattle.months.specs.theory.Kept.{rising_stops, rising_turn, rising_end}
+use Rattle.months.proofs.theory.Kept.{rising_stops, rising_turn, rising_end}
 use Rattle.month_rule.proofs.limits.rising.Goals as goal
 
 pub loop-i-init : goal.loop-i-init

@@ -2,7 +2,7 @@
 use lib.IntN.{pos}
 use mir.Facts.{to_z-of_z}
 use Rattle.months.specs.Limits.{year_in_range}
-use Rattle.months.specs.theory.Kept.{below, not_below}
+use Rattle.months.proofs.theory.Kept.{below, not_below}
 use Rattle.month_rule.proofs.limits.year_in_range.Goals as goal
 
 pub returns-then-year-lt1700 : goal.returns-then-year-lt1700

@@ -1,6 +1,6 @@
 -- `month_rule::numbering::bad_length` meets its contract. Assumes nothing.
 use mir.Facts.{to_z-of_z}
-use Rattle.months.specs.theory.Listed.{too_short, long_enough}
+use Rattle.months.proofs.theory.Listed.{too_short, long_enough}
 use Rattle.month_rule.proofs.numbering.bad_length.Goals as goal
 
 pub returns-then-n-lt29 : goal.returns-then-n-lt29

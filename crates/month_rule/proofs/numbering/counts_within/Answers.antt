@@ -1,6 +1,6 @@
 -- `month_rule::numbering::counts_within` meets its contract. Assumes nothing.
 use mir.Facts.{to_z-of_z}
-use Rattle.months.specs.theory.Listed.{within_early, within_here, within_late}
+use Rattle.months.proofs.theory.Listed.{within_early, within_here, within_late}
 use Rattle.month_rule.proofs.numbering.counts_within.Goals as goal
 
 pub returns-then-day-first : goal.returns-then-day-first

@@ -6,7 +6,7 @@ use native.Mathlib.Omega.{arith}
 use borrow.Author.Rules.{rules}
 use Rattle.whole.specs.Found.{first_begins, first_turn_lem, first_here, first_small}
 use Rattle.months.specs.Months.{without, first_without}
-use Rattle.months.specs.Theorems.{thirteen_months_one_without}
+use Rattle.months.proofs.Theorems.{thirteen_months_one_without}
 use Rattle.month_rule.proofs.numbering.first_without.Goals as goal
 use Rattle.month_rule.proofs.numbering.first_without.Goals.{At-loop-days}
 

@@ -1,5 +1,5 @@
 -- `month_rule::numbering::leap_mark` meets its contract. Assumes nothing.
-use Rattle.months.specs.theory.Numbering.{at_leap, not_at_leap}
+use Rattle.months.proofs.theory.Numbering.{at_leap, not_at_leap}
 use Rattle.month_rule.proofs.numbering.leap_mark.Goals as goal
 
 pub returns-then-place-leap : goal.returns-then-place-leap

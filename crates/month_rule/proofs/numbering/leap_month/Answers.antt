@@ -1,6 +1,6 @@
 -- `month_rule::numbering::leap_month` meets its contract. Assumes nothing.
 use mathlib.Core.Path.{◌∙◌}
-use Rattle.months.specs.theory.Leap.{leap_of_thirteen, leap_of_others}
+use Rattle.months.proofs.theory.Leap.{leap_of_thirteen, leap_of_others}
 use Rattle.month_rule.proofs.numbering.leap_month.Goals as goal
 
 pub first_without-requires : goal.first_without-requires

@@ -1,6 +1,6 @@
 -- `month_rule::numbering::number_at` meets its contract. Assumes nothing.
 use mathlib.Core.Path.{◌∙◌}
-use Rattle.months.specs.theory.Numbering.{before_leap, from_leap}
+use Rattle.months.proofs.theory.Numbering.{before_leap, from_leap}
 use Rattle.month_rule.proofs.numbering.number_at.Goals as goal
 
 pub returns-then-place-leap : goal.returns-then-place-leap

@@ -11,7 +11,7 @@ use mir.Val.{SFits}
 use mir.Facts.{to_z-of_z}
 use Rattle.whole.specs.Counted.{one_small}
 use Rattle.months.specs.Months.{is_within, zhongqi_in}
-use Rattle.months.specs.theory.Listed.{zhongqi_in_turn, zhongqi_in_end}
+use Rattle.months.proofs.theory.Listed.{zhongqi_in_turn, zhongqi_in_end}
 use Rattle.month_rule.proofs.numbering.zhongqi_in.Goals as goal
 use Rattle.month_rule.proofs.numbering.zhongqi_in.Goals.{After-counts_within-n, At-loop-i, Start}
 

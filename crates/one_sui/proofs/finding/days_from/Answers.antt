@@ -16,8 +16,8 @@ use Rattle.series.specs.declared.Body.TheVariants.{Moon}
 use Rattle.series.specs.Series.{Series, series}
 use Rattle.months.specs.Months.{by_first, by_second, moon_missing, month_count, twelve_or_thirteen, days_found}
 use Rattle.months.specs.Answers.{days_answer}
-use Rattle.months.specs.theory.Days.{days_missing, days_other_count, days_are_found, some_listed}
-use Rattle.months.specs.theory.Listed.{at_most_thirteen}
+use Rattle.months.proofs.theory.Days.{days_missing, days_other_count, days_are_found, some_listed}
+use Rattle.months.proofs.theory.Listed.{at_most_thirteen}
 use Rattle.turns.specs.declared.inner.TurnList.{TurnList}
 use Rattle.whole.specs.Selected.{tabulate_part}
 use Rattle.turns.specs.Listed.{turns_of, turn_day, turn_days}

@@ -14,7 +14,7 @@ use Rattle.inputs.specs.Inputs.{Inputs, inputs, sun, moon}
 use Rattle.months.specs.Limits.{year_in_range}
 use Rattle.months.specs.Months.{days_of}
 use Rattle.months.specs.Answers.{days_answer}
-use Rattle.months.specs.theory.Kept.{year_small}
+use Rattle.months.proofs.theory.Kept.{year_small}
 use Rattle.refusals.specs.Verdict.{answered_then, refused_then}
 use Rattle.turns.specs.declared.inner.TurnList.{TurnList}
 use Rattle.turns.specs.Listed.{turn_index_of, turn_after, turn_days, turns_by}

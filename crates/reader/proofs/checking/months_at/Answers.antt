@@ -16,7 +16,7 @@ use Rattle.whole.specs.Solver.{⇑, ⇓, ring}
 use Rattle.whole.specs.Ranges.{back}
 use Rattle.content.specs.Content.{month_at}
 use Rattle.content.specs.Steps.{ordinary, walked_on}
-use Rattle.content.specs.theory.Walk.{MonthsSoFar, no_month_yet, month_next, month_stops, leaps_decide}
+use Rattle.content.proofs.theory.Walk.{MonthsSoFar, no_month_yet, month_next, month_stops, leaps_decide}
 use Rattle.almanac.specs.Layout.{content_at}
 use Rattle.reader.proofs.checking.months_at.Goals as goal
 use Rattle.reader.proofs.checking.months_at.Goals.{After-count-last, After-judge_month-walked, At-loop-place, In-loop-place, Start}

@@ -1,6 +1,6 @@
 -- `reader::checking::months_at` meets its contract. Assumes nothing.
 use Prim.Native.Nat.{◌-◌}
-use Rattle.content.specs.theory.Walk.{MonthsSoFar}
+use Rattle.content.proofs.theory.Walk.{MonthsSoFar}
 use Rattle.almanac.specs.Layout.{content_at}
 use Rattle.reader.proofs.checking.months_at.Given as goal
 

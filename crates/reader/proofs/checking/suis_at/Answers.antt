@@ -14,7 +14,8 @@ use Rattle.whole.specs.Ranges.{fits, bounds, back}
 use Rattle.dates.specs.Answers.{has_date}
 use Rattle.content.specs.Content.{year_at, count_at, month_at, good_months}
 use Rattle.content.specs.Steps.{sui_after}
-use Rattle.content.specs.theory.Walk.{Due, first_due, SuisSoFar, no_sui_yet, no_months, no_date, year_small, count_12_or_13, count_range, sui_stops, months_run_out, months_stop, sui_next, months_left_over}
+use Rattle.content.specs.theory.Walk.{Due}
+use Rattle.content.proofs.theory.Walk.{first_due, SuisSoFar, no_sui_yet, no_months, no_date, year_small, count_12_or_13, count_range, sui_stops, months_run_out, months_stop, sui_next, months_left_over}
 use Rattle.almanac.specs.theory.Checked.{sui_count_lem, months_of_lem}
 use Rattle.reader.proofs.checking.suis_at.Goals as goal
 use Rattle.almanac.specs.Layout.{content_at}

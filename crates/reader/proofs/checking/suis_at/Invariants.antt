@@ -1,6 +1,6 @@
 -- `reader::checking::suis_at` meets its contract. Assumes nothing.
 use Prim.Native.Nat.{◌-◌}
-use Rattle.content.specs.theory.Walk.{SuisSoFar}
+use Rattle.content.proofs.theory.Walk.{SuisSoFar}
 use Rattle.almanac.specs.Layout.{content_at}
 use Rattle.reader.proofs.checking.suis_at.Given as goal
 

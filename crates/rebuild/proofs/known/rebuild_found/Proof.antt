@@ -10,7 +10,7 @@ use lib.ListN.{length, replicate, length-replicate}
 use mir.Facts.{to_z-of_z}
 use Rattle.whole.specs.Lists.{placed}
 use Rattle.refusals.specs.Verdict.{Verdict, answered}
-use Rattle.clock.specs.theory.Table.{few}
+use Rattle.clock.proofs.theory.Table.{few}
 use Rattle.inputs.specs.Inputs.{Inputs, inputs}
 use Rattle.almanac.specs.Layout.{months_at}
 use Rattle.built.specs.Build.{bytes_of_years}

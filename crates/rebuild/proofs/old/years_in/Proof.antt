@@ -4,7 +4,7 @@ use native.Mathlib.Omega.{arith}
 use borrow.Author.Rules.{rules}
 use Rattle.whole.specs.Ranges.{back}
 use Rattle.almanac.specs.Answers.{paper_file}
-use Rattle.almanac.specs.theory.Reader.{checked}
+use Rattle.almanac.proofs.theory.Reader.{checked}
 use Rattle.rebuild.specs.theory.Judging.{no_years, years_read}
 use Rattle.rebuild.proofs.old.years_in.Statement.{statement}
 use Rattle.rebuild.proofs.old.years_in.Tie as tie

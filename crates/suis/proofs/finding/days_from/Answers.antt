@@ -1,8 +1,9 @@
 -- `suis::finding::days_from` meets its contract. In the needs, `start` is the function's entry. Assumes nothing.
+use lib.ListN.{length}
 use mathlib.Core.Path.{◌≡◌, sym, ap, ◌∙◌}
 use mathlib.Core.Bool.{true}
 use mathlib.Core.List.{List}
-use Prim.Native.Nat.{suc, ◌-◌, ◌<◌}
+use Prim.Native.Nat.{suc, ◌<◌}
 use lib.IntN.{ℤ}
 use mir.Facts.{to_z-of_z}
 use Rattle.refusals.specs.Verdict.{answered_then, refused_then}
@@ -11,7 +12,7 @@ use Rattle.inputs.specs.Inputs.{Inputs, inputs, sun, moon}
 use Rattle.months.specs.Limits.{year_in_range}
 use Rattle.months.specs.Months.{days_of}
 use Rattle.months.specs.Answers.{days_answer}
-use Rattle.months.specs.theory.Kept.{year_small}
+use Rattle.months.proofs.theory.Kept.{year_small}
 use Rattle.turns.specs.Listed.{turn_index_of, turn_days, turns_of}
 use Rattle.sui.specs.theory.Found.{one_in_each, zhongqi_from, found_when, missing_when, out_of_range, sui_days_are}
 use Rattle.suis.specs.theory.Each.{each_is, both_listed}
@@ -51,7 +52,7 @@ found_one c = sym (at_each c.before) ∙ c.if-not-one_in_each.false
 
 -- both solstices are listed, and the lent zhongqi days are those from the first to the second
 listed : (c : Found) → suc (start_of c).args.place < turns_of (sun_of (start_of c))
-listed c = let start = start_of c in let a = start.args in both_listed a.leap.now a.sunstart.0 a.sun.now a.zone a.year start.pre.solstices_ahead start.pre.is_place (found_one c)
+listed c = let start = start_of c in let a = start.args in both_listed a.leap.now a.sunstart.0 a.sun.now a.zone a.year start.requires.solstices_ahead start.requires.is_place (found_one c)
 
 at_zhongqi : (c : Found) → (let start = start_of c in start.args.zhongqi.now ≡ zhongqi_from start.args.leap.now (sun_of start) start.args.zone (index_of start))
 at_zhongqi c = (start_of c).requires.are_zhongqi (listed c)
@@ -78,7 +79,7 @@ days_within-requires c =
     let start = start_of c in
     let a = start.args in
     let first = first_is_turn (inputs_of start) a.zone a.place in
-    rw (to_z-of_z start.ranges.zone) (start.pre.moons_searched, (start.pre.thirteen, rw (at_zhongqi c, first) (rw first at (solstices_in_order (inputs_of start) a.zone a.place start.pre.is_known (listed c)), (start.pre.some_moons, start.pre.moons_ahead))))
+    rw (to_z-of_z start.ranges.zone) (rw (at_zhongqi c, first) (record { searched = start.requires.moons_searched; zhongqi_len = ap length (sym (at_zhongqi c)) ∙ start.requires.thirteen; pos_bound = rw first at (solstices_in_order (inputs_of start) a.zone a.place start.requires.is_known (listed c)); nonzero = start.requires.some_moons; ahead = start.requires.moons_ahead }))
 
 pub returns : goal.returns
 returns c =
@@ -86,10 +87,10 @@ returns c =
     let a = start.args in
     let moons = turn_days a.leap.now (moon (inputs_of start)) a.zone in
     let days : c.days_within.result ≡ days_answer (days_of moons a.zhongqi.now) = rw (to_z-of_z start.ranges.zone) at c.days_within.ensures in
-    let index = ap (turn_index_of (sun_of start)) start.pre.is_place in
+    let index = ap (turn_index_of (sun_of start)) start.requires.is_place in
     days
     ∙ ap (λ (l : List ℤ). days_answer (days_of moons l)) (at_zhongqi c.before)
     ∙ ap (λ (j : ℤ). days_answer (days_of moons (zhongqi_from a.leap.now (sun_of start) a.zone j))) index
     ∙ ap days_answer
     (answered_then (λ (j : ℤ). days_of moons (zhongqi_from a.leap.now (sun_of start) a.zone j)) (found_when a.leap.now (sun_of start) a.zone a.year (found_one c.before))
-    ∙ sym (sui_days_are (inputs_of start) a.zone start.pre.is_known a.year (at_year c.before.before.before)))
+    ∙ sym (sui_days_are (inputs_of start) a.zone start.requires.is_known a.year (at_year c.before.before.before)))

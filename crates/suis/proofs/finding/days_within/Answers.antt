@@ -49,10 +49,10 @@ returns-then-newmoons-last c =
     ∙ ap days_answer (crowded_part a.leap.now (series_of c.before.before.before.before.before) a.zone c.requires.searched.ready (zhongqi_of c.before.before.before.before.before) c.requires.pos_bound c.requires.nonzero c.requires.ahead c.if-newmoons-lt15.false (by_last c.before))
 
 pub slice_bounds-days_of-end : goal.slice_bounds-days_of-end
-slice_bounds-days_of-end c = sym (length-take-le 15 c.before.before.before.before.before.args.newmoons.now c.if-newmoons-lt15.false)
+slice_bounds-days_of-end c = sym (length-take-le 15 c.args.newmoons.now c.if-newmoons-lt15.false)
 
 pub returns : goal.returns
 returns c =
-    let a = c.before.before.before.before.before.before.args in
+    let a = c.args in
     c.days_of-2.ensures
-    ∙ ap days_answer (long_part a.leap.now (series_of c.before.before.before.before.before.before) a.zone c.before.before.before.before.before.before.requires.searched.ready (zhongqi_of c.before.before.before.before.before.before) c.before.before.before.before.before.before.requires.pos_bound c.before.before.before.before.before.before.requires.nonzero c.before.before.before.before.before.before.requires.ahead c.if-newmoons-lt15.false (behind_last c.before.before))
+    ∙ ap days_answer (long_part a.leap.now (series_of c.before.before.before.before.before) a.zone c.requires.searched.ready (zhongqi_of c.before.before.before.before.before) c.requires.pos_bound c.requires.nonzero c.requires.ahead c.if-newmoons-lt15.false (behind_last c.before))

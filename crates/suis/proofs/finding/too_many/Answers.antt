@@ -2,7 +2,7 @@
 use mathlib.Core.Path.{◌≡◌, ap, ◌∙◌}
 use native.Mathlib.Omega.{arith}
 use mir.Facts.{to_z-of_z}
-use Prim.Native.Nat.{ℕ, ◌<◌}
+use Prim.Native.Nat.{ℕ}
 use Rattle.series.specs.declared.Body.TheVariants.{Moon}
 use Rattle.series.specs.Series.{Series, series}
 use Rattle.months.specs.Answers.{days_answer}

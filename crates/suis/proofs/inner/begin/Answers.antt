@@ -12,7 +12,7 @@ use Rattle.refusals.specs.Verdict.{answered}
 use Rattle.series.specs.declared.Body.TheVariants.{Sun, Moon}
 use Rattle.series.specs.Series.{Series, series}
 use Rattle.months.specs.Limits.{year_in_range}
-use Rattle.months.specs.theory.Kept.{year_small}
+use Rattle.months.proofs.theory.Kept.{year_small}
 use Rattle.times.specs.declared.Day.{Day}
 use Rattle.turns.specs.Listed.{turns_of, turns_by}
 use Rattle.turns.specs.Searched.{count_is}

@@ -1,16 +1,16 @@
 -- `suis::inner::days_ahead` meets its contract. The loop's invariant: the first i days stand in front. Assumes nothing.
 use mathlib.Core.Path.{◌≡◌, refl, ap}
-use mathlib.Core.List.{List, ◌++◌}
-use Prim.Native.Nat.{ℕ, ◌+◌, ◌-◌, ◌≤◌}
+use mathlib.Core.List.{◌++◌}
+use Prim.Native.Nat.{ℕ}
 use native.Mathlib.Omega.{arith}
 use borrow.Author.Rules.{rules}
 use lib.IntN.{ℤ}
-use lib.ListN.{length, drop, length-set}
+use lib.ListN.{drop, length-set}
 use mir.Syntax.{w64}
-use mir.Val.{SFits, to_z}
+use mir.Val.{SFits}
 use mir.Facts.{to_z-of_z}
 use Rattle.whole.specs.Tabulated.{tabulate, tabulate_turn}
-use Rattle.series.specs.Series.{Series, series}
+use Rattle.series.specs.Series.{series}
 use Rattle.times.specs.declared.Day.{Day}
 use Rattle.turns.specs.Searched.{count_small}
 use Rattle.suis.proofs.inner.days_ahead.Goals as goal

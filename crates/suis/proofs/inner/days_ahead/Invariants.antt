@@ -1,10 +1,10 @@
 -- `suis::inner::days_ahead` meets its contract. The loop's invariant: the first i days stand in front. Assumes nothing.
-use mathlib.Core.Path.{◌≡◌, refl, ap}
+use mathlib.Core.Path.{◌≡◌}
 use mathlib.Core.List.{List, ◌++◌}
 use Prim.Native.Nat.{ℕ, ◌+◌, ◌-◌, ◌≤◌}
 use lib.IntN.{ℤ}
-use lib.ListN.{length, drop, length-set}
-use Rattle.whole.specs.Tabulated.{tabulate, tabulate_turn}
+use lib.ListN.{length, drop}
+use Rattle.whole.specs.Tabulated.{tabulate}
 use Rattle.series.specs.Series.{Series, series}
 use Rattle.turns.specs.Listed.{turn_day}
 use Rattle.suis.proofs.inner.days_ahead.Given as goal

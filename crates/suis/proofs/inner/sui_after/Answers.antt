@@ -1,14 +1,13 @@
 -- `suis::inner::sui_after` meets its contract. In the needs, `start` is the function's entry. Assumes nothing.
 use mathlib.Core.Path.{◌≡◌, sym, ap, ◌∙◌}
-use borrow.Author.Rules.{rules}
 use mir.Facts.{to_z-of_z}
 use Rattle.refusals.specs.Verdict.{answered, refused_then, answered_then}
 use Rattle.inputs.specs.Inputs.{Inputs, inputs}
 use Rattle.months.specs.Months.{sui_of}
 use Rattle.months.specs.Answers.{sui_answer}
-use Rattle.months.specs.theory.Answered.{days_answered, days_refused}
-use Rattle.months.specs.theory.Kept.{year_small}
-use Rattle.months.specs.theory.Days.{found_small}
+use Rattle.months.proofs.theory.Answered.{days_answered, days_refused}
+use Rattle.months.proofs.theory.Kept.{year_small}
+use Rattle.months.proofs.theory.Days.{found_small}
 use Rattle.sui.specs.Sui.{new_moon_days, zhongqi_days, sui_days}
 use Rattle.sui.specs.Theorems.{sui_days_of_accepted}
 use Rattle.sui.specs.theory.Answered.{Found, days_found_lem, new_moons_small}
@@ -34,17 +33,14 @@ returns-in-Refused c =
     let refused = days_refused c.days_after-found.result (sui_days (inputs_of c.before.before.before) c.args.zone c.args.year) (rw (to_z-of_z c.ranges.zone, to_z-of_z c.ranges.year) at c.days_after-found.ensures) c.in-Refused.is in
     c.no_sui.ensures ∙ ap sui_answer (refused_then (sui_of c.args.year) (sym refused))
 
-pub enum_told-1 : goal.enum_told-1
-enum_told-1 c = search rules
-
 pub sui_of-requires : goal.sui_of-requires
 sui_of-requires c =
-    let i = inputs_of c.before.before in
+    let i = inputs_of c.before.before.before in
     let zone = c.args.zone in
     let is_known = c.requires.ahead.is_known in
-    let found = at_found c in
-    let zhongqi = zhongqi_days i zone found.first found.last in record { within = rw (to_z-of_z c.ranges.year) (year_small c.args.year found.in_range); sui_days = sui_days_of_accepted i zone c.args.year is_known (at_days c); all = found_small (new_moon_days i zone) zhongqi found.by_rule (new_moons_small i zone is_known c.requires.ahead.suns_searched.zone_small) }
+    let found = at_found c.before in
+    let zhongqi = zhongqi_days i zone found.first found.last in record { within = rw (to_z-of_z c.ranges.year) (year_small c.args.year found.in_range); sui_days = sui_days_of_accepted i zone c.args.year is_known (at_days c.before); all = found_small (new_moon_days i zone) zhongqi found.by_rule (new_moons_small i zone is_known c.requires.ahead.suns_searched.zone_small) }
 
 pub returns : goal.returns
 returns c =
-    (rw (to_z-of_z c.ranges.year) at c.sui_of.ensures) ∙ ap sui_answer (answered_then (sui_of c.args.year) (sym (at_days c.before)))
+    (rw (to_z-of_z c.ranges.year) at c.sui_of.ensures) ∙ ap sui_answer (answered_then (sui_of c.args.year) (sym (at_days c.before.before)))

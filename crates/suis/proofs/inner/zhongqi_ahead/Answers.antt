@@ -1,7 +1,7 @@
 -- `suis::inner::zhongqi_ahead` meets its contract. The loop's invariant: the zhongqi days of the first j suis stand in front. Assumes nothing.
 use mathlib.Core.Path.{◌≡◌, ap, ◌∙◌}
 use mathlib.Core.List.{List}
-use Prim.Native.Nat.{◌+◌, ◌-◌, ◌*◌, ◌≤◌, ◌<◌}
+use Prim.Native.Nat.{◌+◌, ◌*◌, ◌<◌}
 use native.Mathlib.Omega.{arith}
 use borrow.Author.Rules.{rules}
 use lib.IntN.{ℤ, pos, ◌+ℤ◌}
@@ -44,7 +44,7 @@ at_long : (c : Loop) → length c.loop-j.out ≡ length c.args.out.now
 at_long c =
     let a = c.args in
     let before = zhongqi_of a.leap.now (sun_of c.before) a.zone a.place c.loop-j.j in
-    ap length (at_head c) ∙ placed_length a.out-1.now before 0 (omega (arith, length_zhongqi a.leap.now (sun_of c.before) a.zone a.place c.loop-j.j, c.loop-j.invariant.0, c.requires.m_in_bounds_2))
+    ap length (at_head c) ∙ placed_length a.out.now before 0 (omega (arith, length_zhongqi a.leap.now (sun_of c.before) a.zone a.place c.loop-j.j, c.loop-j.invariant.0, c.requires.m_in_bounds_2))
 
 -- both solstices of sui j stand among the lent days
 both : (c : Loop) → c.loop-j.j < c.args.m → c.loop-j.j + 1 < length c.args.solstices.now
@@ -109,7 +109,7 @@ pub loop-j-preserved : goal.loop-j-preserved
 loop-j-preserved c =
     let taken = c.loop-j-test.true in
     let a = c.args in
-    (omega (arith, taken), rw (to_z-of_z c.ranges.zone) (c.put_thirteen.ensures ∙ ap (λ (l : List ℤ). placed (13 * c.loop-j.j) l c.loop-j.out) (at_zhongqi c.before.before.before.before) ∙ sui_put a.leap.now (sun_of c.before.before.before.before.before.before.before.before.before.before.before) a.zone a.place a.out-1.now c.loop-j.j (omega (arith, taken, c.requires.m_in_bounds_2)) (at_head c.before.before.before.before.before.before.before.before.before.before)))
+    (omega (arith, taken), rw (to_z-of_z c.ranges.zone) (c.put_thirteen.ensures ∙ ap (λ (l : List ℤ). placed (13 * c.loop-j.j) l c.loop-j.out) (at_zhongqi c.before.before.before.before) ∙ sui_put a.leap.now (sun_of c.before.before.before.before.before.before.before.before.before.before.before) a.zone a.place a.out.now c.loop-j.j (omega (arith, taken, c.requires.m_in_bounds_2)) (at_head c.before.before.before.before.before.before.before.before.before.before)))
 
 pub shape_of-out : goal.shape_of-out
 shape_of-out c = at_long c.before

@@ -1,9 +1,9 @@
 -- `suis::inner::zhongqi_ahead` meets its contract. The loop's invariant: the zhongqi days of the first j suis stand in front. Assumes nothing.
-use mathlib.Core.Path.{◌≡◌, ap, ◌∙◌}
-use Prim.Native.Nat.{◌+◌, ◌-◌, ◌*◌, ◌≤◌, ◌<◌}
-use Rattle.whole.specs.Lists.{placed, placed_length}
+use mathlib.Core.Path.{◌≡◌}
+use Prim.Native.Nat.{◌-◌, ◌≤◌}
+use Rattle.whole.specs.Lists.{placed}
 use Rattle.series.specs.declared.Body.TheVariants.{Sun}
-use Rattle.series.specs.Series.{Series, series}
+use Rattle.series.specs.Series.{series}
 use Rattle.suis.specs.Ahead.{zhongqi_of}
 use Rattle.suis.proofs.inner.zhongqi_ahead.Given as goal
 

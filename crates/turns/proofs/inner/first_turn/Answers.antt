@@ -5,7 +5,7 @@ use lib.IntN.{pos, ◌+ℤ◌, ◌-ℤ◌}
 use mir.Syntax.{w64}
 use mir.Val.{of_z, to_z}
 use mir.Facts.{to_z-of_z}
-use Rattle.whole.specs.Floor.{floor_mod_lt}
+use Rattle.whole.proofs.Floor.{floor_mod_lt}
 use Rattle.whole.specs.Parts.{→<}
 use Rattle.whole.specs.Ranges.{back, fits, fits<, bounds}
 use Rattle.turns.specs.Turns.{circle_of, turn_of, some_circle, small_circle, turn_within, gap}

@@ -4,8 +4,8 @@ use mir.Syntax.{w64}
 use mir.Val.{SFits}
 use mir.Facts.{to_z-of_z}
 use Rattle.whole.specs.Solver.{lt_yes, lt_no}
-use Rattle.whole.specs.Floor.{floor_div_fits}
-use Rattle.whole.specs.Division.{div_need, quot_fits, rem_fits, floor_neg, floor_pos}
+use Rattle.whole.proofs.Floor.{floor_div_fits}
+use Rattle.whole.proofs.Division.{div_need, quot_fits, rem_fits, floor_neg, floor_pos}
 use Rattle.whole.proofs.inner.floor_div.Goals as goal
 
 pub nonzero_div-q : goal.nonzero_div-q

@@ -2,7 +2,7 @@
 use mathlib.Core.Path.{◌∙◌}
 use mir.Facts.{to_z-of_z}
 use Rattle.whole.specs.Solver.{lt_yes, lt_no}
-use Rattle.whole.specs.Division.{div_need, rem_fits, mod_neg, mod_pos, mod_fits}
+use Rattle.whole.proofs.Division.{div_need, rem_fits, mod_neg, mod_pos, mod_fits}
 use Rattle.whole.proofs.inner.floor_mod.Goals as goal
 
 pub nonzero_rem-r : goal.nonzero_rem-r

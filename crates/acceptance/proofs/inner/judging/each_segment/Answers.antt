@@ -17,8 +17,8 @@ use Rattle.series.specs.Series.{segment, segments}
 use Rattle.series.specs.declared.Body.{Body}
 use Rattle.series.specs.Bodies.{numbers}
 use Rattle.series.specs.Acceptance.{bad_range, slow}
-use Rattle.series.specs.theory.Known.{segment_length_lem}
-use Rattle.series.specs.theory.Span.{first_within, last_within}
+use Rattle.series.proofs.theory.Known.{segment_length_lem}
+use Rattle.series.proofs.theory.Span.{first_within, last_within}
 use Rattle.acceptance.proofs.Pass.{pass_start, pass_refused, pass_end, pass_turn, part_in_range}
 use Rattle.acceptance.proofs.inner.judging.each_segment.Goals as goal
 use Rattle.acceptance.proofs.inner.judging.each_segment.Goals.{After-ends_of-ends, After-out_of_range, After-too_slow, Else-out_of_range}

@@ -13,7 +13,7 @@ use Rattle.chebyshev.specs.EndValues.{even_sum, odd_sum, square_sum, first_value
 use Rattle.analysis.specs.Theorems as theorems
 use Rattle.series.specs.declared.Body.{Body}
 use Rattle.series.specs.Bodies.{numbers, body_laws}
-use Rattle.series.specs.theory.Span.{last_within}
+use Rattle.series.proofs.theory.Span.{last_within}
 use Rattle.acceptance.proofs.inner.judging.ends_of.Goals as goal
 use Rattle.acceptance.proofs.inner.judging.ends_of.Goals.{After-add-sum, After-even_sum-even, After-floor_by_half, After-odd_sum-odd, After-square_sum, After-subtract-down, After-subtract-first}
 

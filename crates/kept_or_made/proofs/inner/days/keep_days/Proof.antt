@@ -16,7 +16,7 @@ use Rattle.inputs.specs.Inputs.{Inputs, inputs, sun}
 use Rattle.months.specs.declared.DaysAnswer.{DaysAnswer}
 use Rattle.months.specs.declared.SuiDays.{SuiDays}
 use Rattle.months.specs.Answers.{days_answer}
-use Rattle.months.specs.theory.Kept as Kept
+use Rattle.months.proofs.theory.Kept as Kept
 use Rattle.turns.specs.Listed.{turns_few}
 use Rattle.suis.specs.Ahead.{YearIn}
 use Rattle.build.specs.theory.Walk.{reach_starts, reach_goes_on, year_in}

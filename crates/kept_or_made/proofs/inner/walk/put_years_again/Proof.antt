@@ -21,7 +21,7 @@ use Rattle.refusals.specs.declared.Refusal.{Refusal}
 use Rattle.inputs.specs.Inputs.{Inputs, inputs, sun}
 use Rattle.months.specs.declared.Sui.{Sui}
 use Rattle.months.specs.declared.SuiDays.{SuiDays}
-use Rattle.months.specs.theory.Kept as Kept
+use Rattle.months.proofs.theory.Kept as Kept
 use Rattle.turns.specs.Listed.{turns_few}
 use Rattle.sui.specs.Sui.{sui_days, sui_of_year}
 use Rattle.suis.specs.Ahead.{YearIn}

@@ -7,8 +7,8 @@ use mir.Facts.{to_z-of_z}
 use Rattle.refusals.specs.Verdict.{Verdict, answered}
 use Rattle.months.specs.declared.Sui.{Sui}
 use Rattle.months.specs.Months.{sui_of}
-use Rattle.months.specs.theory.Listed.{at_most_thirteen}
-use Rattle.months.specs.theory.Suis.{sui_count_lem}
+use Rattle.months.proofs.theory.Listed.{at_most_thirteen}
+use Rattle.months.proofs.theory.Suis.{sui_count_lem}
 use Rattle.build.specs.theory.Answered.{sui_answered, sui_refused}
 use Rattle.built.specs.theory.Records.{has_its_months}
 use Rattle.kept_or_made.specs.Again.{months_at_place}

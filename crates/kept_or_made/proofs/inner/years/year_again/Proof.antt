@@ -8,10 +8,10 @@ use Rattle.refusals.specs.Verdict.{Verdict, answered}
 use Rattle.inputs.specs.Inputs.{Inputs, inputs}
 use Rattle.months.specs.declared.SuiDays.{SuiDays}
 use Rattle.months.specs.Months.{IsSuiDays}
-use Rattle.months.specs.theory.Answered.{days_answered, days_refused}
-use Rattle.months.specs.theory.Kept.{year_small}
-use Rattle.months.specs.theory.Days.{found_small}
-use Rattle.months.specs.theory.Listed.{at_most_thirteen}
+use Rattle.months.proofs.theory.Answered.{days_answered, days_refused}
+use Rattle.months.proofs.theory.Kept.{year_small}
+use Rattle.months.proofs.theory.Days.{found_small}
+use Rattle.months.proofs.theory.Listed.{at_most_thirteen}
 use Rattle.sui.specs.Sui.{new_moon_days, zhongqi_days, sui_days}
 use Rattle.sui.specs.Theorems.{sui_days_of_accepted}
 use Rattle.sui.specs.theory.Answered.{Found, days_found_lem, new_moons_small}

@@ -1,7 +1,6 @@
 -- `suis::inner::zhongqi::put_thirteen` meets its contract. The loop's invariant: the first i days are put. Assumes nothing.
 use mathlib.Core.Path.{◌≡◌, ap, ◌∙◌}
 use mathlib.Core.List.{List}
-use Prim.Native.Nat.{◌-◌, ◌≤◌}
 use native.Mathlib.Omega.{arith}
 use borrow.Author.Rules.{rules}
 use lib.IntN.{ℤ, pos}
@@ -14,12 +13,12 @@ use Rattle.whole.specs.Lists.{placed, placed_none, placed_length, word_put}
 use Rattle.suis.proofs.inner.zhongqi.put_thirteen.Goals as goal
 use Rattle.suis.proofs.inner.zhongqi.put_thirteen.Goals.{At-loop-i, Start}
 
-whole_days : (start : Start) → length start.args.t3 ≡ 13
+whole_days : (start : Start) → length start.args.days ≡ 13
 whole_days start = search rules
 
 at_long : (c : At-loop-i) → length c.loop-i.out ≡ length c.args.out.now
 at_long c =
-    ap length c.loop-i.invariant.1 ∙ placed_length c.args.out.now (take c.loop-i.i c.args.t3) c.args.at (omega (arith, length-take-le c.loop-i.i c.args.t3 (omega (arith, c.loop-i.invariant.0, whole_days c.before)), c.loop-i.invariant.0, c.requires))
+    ap length c.loop-i.invariant.1 ∙ placed_length c.args.out.now (take c.loop-i.i c.args.days) c.args.at (omega (arith, length-take-le c.loop-i.i c.args.days (omega (arith, c.loop-i.invariant.0, whole_days c.before)), c.loop-i.invariant.0, c.requires))
 
 pub loop-i-init : goal.loop-i-init
 loop-i-init c = (omega arith, placed_none c.args.out.now c.args.at)
@@ -41,7 +40,7 @@ loop-i-smaller c = omega arith
 
 pub loop-i-preserved : goal.loop-i-preserved
 loop-i-preserved c =
-    let days = c.args.t3 in
+    let days = c.args.days in
     let i = c.loop-i.i in
     let f : SFits w64 (get_or days i (pos 0)) = search rules in
     (omega arith, rw (to_z-of_z f) (word_put c.args.out.now days c.args.at i (pos 0) (omega (arith, whole_days c.before.before.before)) (omega (arith, whole_days c.before.before.before, c.requires)) c.loop-i.invariant.1))
@@ -51,6 +50,6 @@ shape_of-out c = at_long c.before
 
 pub returns : goal.returns
 returns c =
-    let days = c.args.t3 in
+    let days = c.args.days in
     let all : c.loop-i.i ≡ 13 = omega (arith, c.loop-i-test.false, c.loop-i.invariant.0) in
     c.loop-i.invariant.1 ∙ ap (λ (l : List ℤ). placed c.args.at l c.args.out.now) (take_all c.loop-i.i days (omega (arith, whole_days c.before.before)))

@@ -1,8 +1,8 @@
 -- `suis::inner::zhongqi::put_thirteen` meets its contract. The loop's invariant: the first i days are put. Assumes nothing.
-use mathlib.Core.Path.{◌≡◌, ap, ◌∙◌}
+use mathlib.Core.Path.{◌≡◌}
 use Prim.Native.Nat.{◌-◌, ◌≤◌}
-use lib.ListN.{length, get_or, take}
-use Rattle.whole.specs.Lists.{placed, placed_none, placed_length, word_put}
+use lib.ListN.{take}
+use Rattle.whole.specs.Lists.{placed}
 use Rattle.suis.proofs.inner.zhongqi.put_thirteen.Given as goal
 
 abbrev pub invariant-loop-i : goal.invariant-loop-i

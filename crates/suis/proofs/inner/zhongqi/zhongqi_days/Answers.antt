@@ -1,15 +1,15 @@
 -- `suis::inner::zhongqi::zhongqi_days` meets its contract. The loop's invariant: the first i days stand in the array. Assumes nothing.
 use mathlib.Core.Path.{◌≡◌, refl, ◌∙◌}
-use mathlib.Core.List.{List, ◌++◌, append-nil}
-use Prim.Native.Nat.{ℕ, ◌-◌, ◌*◌, ◌≤◌}
+use mathlib.Core.List.{◌++◌, append-nil}
+use Prim.Native.Nat.{ℕ}
 use native.Mathlib.Omega.{arith}
-use lib.IntN.{ℤ, pos, ◌+ℤ◌}
+use lib.IntN.{ℤ, pos}
 use lib.ListN.{drop, replicate}
 use mir.Facts.{to_z-of_z}
 use Rattle.whole.specs.Ranges.{back}
 use Rattle.whole.specs.Tabulated.{tabulate, tabulate_turn}
 use Rattle.series.specs.declared.Body.TheVariants.{Sun}
-use Rattle.series.specs.Series.{Series, series}
+use Rattle.series.specs.Series.{series}
 use Rattle.suis.proofs.inner.zhongqi.zhongqi_days.Goals as goal
 use Rattle.suis.proofs.inner.zhongqi.zhongqi_days.Invariants.{day_at}
 use Rattle.suis.proofs.inner.zhongqi.zhongqi_days.Goals.{After-zhongqi_between, At-loop-i, Start}

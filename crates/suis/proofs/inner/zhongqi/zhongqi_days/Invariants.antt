@@ -1,10 +1,10 @@
 -- `suis::inner::zhongqi::zhongqi_days` meets its contract. The loop's invariant: the first i days stand in the array. Assumes nothing.
-use mathlib.Core.Path.{◌≡◌, refl, ◌∙◌}
-use mathlib.Core.List.{List, ◌++◌, append-nil}
+use mathlib.Core.Path.{◌≡◌}
+use mathlib.Core.List.{List, ◌++◌}
 use Prim.Native.Nat.{ℕ, ◌-◌, ◌*◌, ◌≤◌}
 use lib.IntN.{ℤ, pos, ◌+ℤ◌}
 use lib.ListN.{drop, replicate}
-use Rattle.whole.specs.Tabulated.{tabulate, tabulate_turn}
+use Rattle.whole.specs.Tabulated.{tabulate}
 use Rattle.series.specs.declared.Body.TheVariants.{Sun}
 use Rattle.series.specs.Series.{Series, series}
 use Rattle.inputs.specs.Inputs.{day_of_mark}

@@ -1,0 +1,9 @@
+pub mod Answered
+pub mod Days
+pub mod Kept
+pub mod Leap
+pub mod Listed
+pub mod Numbering
+pub mod Rising
+pub mod Suis
+pub mod Thirteen

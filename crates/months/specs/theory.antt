@@ -1,9 +1,0 @@
-pub mod Numbering
-pub mod Listed
-pub mod Days
-pub mod Leap
-pub mod Kept
-pub mod Answered
-pub mod Rising
-pub mod Suis
-pub mod Thirteen

@@ -1,0 +1,4 @@
+pub mod Known
+pub mod Span
+pub mod Steps
+pub mod Refused

@@ -1,0 +1,2 @@
+pub mod Floor
+pub mod Division
