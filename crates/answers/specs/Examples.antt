@@ -1,6 +1,6 @@
 -- The record of answers and refusals, the numbers of refusals, and the room of a sui's months on both sides of what they take, each a computed fact, and all of
 -- them checked at once. Assumes nothing.
-use Rattle.std.specs.Prelude.{Bool, true, false, not, List, [], ◌∷◌, ℕ, ◌^◌, ◌-◌, T, ℤ, pos, negsuc, length, replicate}
+use Rattle.std.specs.Prelude.{Bool, true, false, not, List, [], ◌∷◌, ℕ, ◌^◌, ◌-◌, T, ℤ, pos, negsuc, replicate}
 use Rattle.whole.specs.Evaluated.{same, all, same_words}
 use Rattle.refusals.specs.Verdict.{Verdict, answered, refused, accepted}
 use Rattle.refusals.specs.Evaluated.{is_accepted, is_refused}
