@@ -164,6 +164,7 @@ class Function:
         self.steps_of = {norm(p[0]): p[2][1] for p in d["places"] if p[2]}
         self.arm = {norm(p[0]): arm[0] if arm else None for p, arm in zip(d["places"], d["arms"])}
         self.raw = {norm(p[0]): p[0] for p in d["places"]}
+        self.params = {p[2][1]: (d.get("params") or {}).get(p[3]) for p in d["places"] if p[3]}
         self.by_lts = False
         self.short = {}
         self.arms = sorted({("." + norm(step) + "." + ".".join(way), f".{arm[0]}.{new}") for arm in d["arms"] if arm for new, step, way in arm[2] if way and not new.endswith("-own")}, key=lambda x: -len(x[0]))
@@ -175,7 +176,8 @@ class Function:
         for i, p in enumerate(d["places"]):
             self.places[norm(p[0])] = d["places_by_name"][i]
             if p[2] and p[2][0]:
-                self.steps[norm(p[2][0])] = p[2][1]
+                if not re.search(r"-1$", p[2][1]):
+                    self.steps[norm(p[2][0])] = p[2][1]
                 if d["clauses"][i] and d["clauses"][i].get("fields"):
                     self.clauses[p[2][1]] = d["clauses"][i]["fields"]
         self.loops = [(a, b, v, d["changed"][i]) for i, ((a, b), v) in enumerate(d["loops"])]
@@ -304,8 +306,17 @@ class Function:
         text = re.sub(r"(\.loop[^\s(){}.;,]*)\.inv\b", r"\1.invariant", text)
         text = re.sub(r"\.pre(?= )", ".requires", text)
         text = re.sub(r"\.fits\.(?=[a-z])", ".ranges.", text)
+        text = re.sub(r"(?<![\w.'-])([A-Za-z][\w'-]*)(?:\.before)+\.(args|ranges|requires)\b", r"\1.\2", text)
+        text = re.sub(r"\.args\.(\w+)-1\b", r".args.\1", text)
+
+        def lent(m):
+            params = self.params.get(m.group(1)) or []
+            k = m.group(3).count(".1")
+            return f".{m.group(1)}.{m.group(2)}.{params[k]}" if k < len(params) else m.group(0)
+
+        text = re.sub(r"\.([^\s(){}.;,]+)\.(new|auto)((?:\.1)*)\.0(?![\w.'-]*\w)", lent, text)
         text = re.sub(r"\bfits_of (" + path + r") " + path + r"told[^\s(){};,]*\.given[^\s(){};,]*", r"fits_of \1 (omega arith)", text)
-        text = re.sub(r"(?<=\.args\.)t(\d+)\b", lambda m: self.given[int(m.group(1))] if int(m.group(1)) < len(self.given) else m.group(0), text)
+        text = re.sub(r"(?<=\.args\.)t(\d+)\b", lambda m: self.given[int(m.group(1)) - 1] if int(m.group(1)) <= len(self.given) else m.group(0), text)
         text = re.sub(r"\bap not \(sym (" + path + r")\) ∙ (" + path + r"\.if-not-[^\s(){}.;,]+\.(?:true|false))", r"ap not (sym \1 ∙ \2)", text)
         tested = path + r"\.if-not-[^\s(){}.;,]+\.(?:true|false)"
         text = re.sub(r"\bnot-(?:true|false) " + path + r" (\(" + tested + r"\)|" + tested + r")(?![\w.'-])", lambda m: m.group(1).strip("()"), text)
