@@ -1,4 +1,6 @@
 // The file build: the suis of consecutive years, from leap table, Sun and Moon into a lent almanac file (document 01, "Almanac file").
+#![tactic(auto)]
+
 ghost use Rattle.std.specs.Prelude.{◌≡◌, length};
 ghost use Rattle.refusals.specs.Lent.{written_into};
 ghost use Rattle.inputs.specs.Inputs.{inputs};

@@ -49,7 +49,7 @@ module _ (v : Verdict (List ℕ)) where
       }
 
   pub its_file : {size : ℕ} {room last : List ℕ} → Wrote size room last → (file : List ℕ) → same_numbers (take size last) file ≡ is_file v file
-  its_file w file = ap (λ (b : List ℕ). same_numbers b file) w.stand ∙ sym (ap (λ (u : Verdict (List ℕ)). is_file u file) w.are-bytes)
+  its_file w file = ap (λ (b : List ℕ). same_numbers b file) w.stand ∙ sym (ap (λ (u : Verdict (List ℕ)). is_file u file) w.are_bytes)
 
 -- ---- the years of a file
 abbrev pub paper_years : FileYearsAnswer → Verdict Years
