@@ -15,8 +15,8 @@ use Rattle.building.specs.Building.{length_kept, all_taken}
 -- neither, unless the first is answered
 infixr 5 ◌leads_to◌
 abbrev pub ◌leads_to◌ : {A : Type 0} → Verdict A → (A → SeriesAnswer) → SeriesAnswer
-answered a leads-to f = f a
-refused number segment leads-to f = Neither
+answered a leads_to f = f a
+refused number segment leads_to f = Neither
 
 -- this series where its verdict is a refusal, else what the rest says
 abbrev pub blamed : Verdict (Unit {0}) → SeriesAnswer → SeriesAnswer → SeriesAnswer
@@ -24,17 +24,17 @@ blamed (answered a) series rest = rest
 blamed (refused number segment) series rest = series
 
 unfoldable pub refused_of : Inputs → SeriesAnswer
-refused_of i = leap_judged i.leap leads-to (λ _. blamed (series_judged (sun i)) Sun (blamed (series_judged (moon i)) Moon Neither))
+refused_of i = leap_judged i.leap leads_to (λ _. blamed (series_judged (sun i)) Sun (blamed (series_judged (moon i)) Moon Neither))
 
 unfoldable pub refused_in_rest : List ℤ → SeriesAnswer
-refused_in_rest ws = places ws leads-to (λ p. refused_of (inputs_at ws p))
+refused_in_rest ws = places ws leads_to (λ p. refused_of (inputs_at ws p))
 
 unfoldable pub refused_in_words : List ℤ → SeriesAnswer
-refused_in_words ws = refuse_when (ltb (length ws) 2) 13 leads-to (λ _. refused_in_rest (drop 2 ws))
+refused_in_words ws = refuse_when (ltb (length ws) 2) 13 leads_to (λ _. refused_in_rest (drop 2 ws))
 
 unfoldable pub refused_series : List ℕ → ℤ → SeriesAnswer
-refused_series bytes zone = zone_judged zone leads-to (λ _. refuse_when (not (length_kept (length bytes))) 13 leads-to (λ _. refused_in_words (words bytes (length bytes / 8))))
+refused_series bytes zone = zone_judged zone leads_to (λ _. refuse_when (not (length_kept (length bytes))) 13 leads_to (λ _. refused_in_words (words bytes (length bytes / 8))))
 
 -- the same once so many bytes were taken in pieces
 unfoldable pub refused_in_taken : List ℤ → ℕ → ℤ → SeriesAnswer
-refused_in_taken ws bytes zone = zone_judged zone leads-to (λ _. refuse_when (not (all_taken ws bytes)) 13 leads-to (λ _. refused_in_words (take (bytes / 8) ws)))
+refused_in_taken ws bytes zone = zone_judged zone leads_to (λ _. refuse_when (not (all_taken ws bytes)) 13 leads_to (λ _. refused_in_words (take (bytes / 8) ws)))

@@ -34,13 +34,13 @@ moon_or_sun e = let z : ◌≡◌ {A = ℕ} 0 1 = cc in omega arith
 abbrev Both : Verdict (Unit {0}) → Verdict (Unit {0}) → Verdict (Unit {0}) → Type 0
 Both first series rest = (number : ℕ) × (segment : ℕ) × (series ≡ refused number segment) × (first before rest ≡ refused number segment)
 
-names_sun : (l s m rest : Verdict (Unit {0})) → l leads-to (λ _. blamed s Sun (blamed m Moon Neither)) ≡ Sun → Both l s (s before m before rest)
+names_sun : (l s m rest : Verdict (Unit {0})) → l leads_to (λ _. blamed s Sun (blamed m Moon Neither)) ≡ Sun → Both l s (s before m before rest)
 names_sun (refused n k) s m rest e = absurd (not_sun e)
 names_sun (answered a) (refused n k) m rest e = (n, k, refl, refl)
 names_sun (answered a) (answered b) (refused n k) rest e = absurd (moon_or_sun e)
 names_sun (answered a) (answered b) (answered d) rest e = absurd (not_sun e)
 
-names_moon : (l s m rest : Verdict (Unit {0})) → l leads-to (λ _. blamed s Sun (blamed m Moon Neither)) ≡ Moon → Both l m (s before m before rest)
+names_moon : (l s m rest : Verdict (Unit {0})) → l leads_to (λ _. blamed s Sun (blamed m Moon Neither)) ≡ Moon → Both l m (s before m before rest)
 names_moon (refused n k) s m rest e = absurd (not_moon e)
 names_moon (answered a) (refused n k) m rest e = absurd (sun_or_moon e)
 names_moon (answered a) (answered b) (refused n k) rest e = (n, k, refl, refl)
@@ -62,7 +62,7 @@ moon_judged : (i : Inputs) → refused_of i ≡ Moon → Judged i (moon i)
 unfolding refused_of inputs_judged
 moon_judged i e = names_moon (leap_judged i.leap) (series_judged (sun i)) (series_judged (moon i)) (early i) e
 
-leads_from : {A : Type 0} (u : Verdict A) (f : A → SeriesAnswer) (x : SeriesAnswer) → (Neither ≡ x → ⊥) → u leads-to f ≡ x → (a : A) × (u ≡ answered a) × (f a ≡ x)
+leads_from : {A : Type 0} (u : Verdict A) (f : A → SeriesAnswer) (x : SeriesAnswer) → (Neither ≡ x → ⊥) → u leads_to f ≡ x → (a : A) × (u ≡ answered a) × (f a ≡ x)
 leads_from (answered a) f x some e = (a, refl, e)
 leads_from (refused number segment) f x some e = absurd (some e)
 

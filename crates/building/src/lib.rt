@@ -1,5 +1,7 @@
 // The file build from an input of bytes, by the days of a zone: first Y and count of suis, then leap table, Sun and Moon in the listing's layout. The bytes come in
 // pieces, of which the words are kept (`pieces`).
+#![tactic(auto)]
+
 ghost use Rattle.std.specs.Prelude.{◌≡◌, length};
 ghost use Rattle.refusals.specs.Lent.{written_into};
 ghost use Rattle.almanac.specs.Answers.{paper_written, bytes_counted, all_bytes};

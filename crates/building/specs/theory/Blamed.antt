@@ -15,10 +15,10 @@ use Rattle.building.specs.Building.{all_taken}
 use Rattle.building.specs.Refused.{◌leads_to◌, blamed, refused_of, refused_in_rest, refused_in_words, refused_in_taken}
 
 -- ---- one link of the chain: a check that refuses ends it, one that accepts goes on
-pub ends : {q : Check} {r : Refusal} {u : Verdict (Unit {0})} (f : Unit {0} → SeriesAnswer) → paper_check q ≡ u → q ≡ Refused r → Neither ≡ u leads-to f
+pub ends : {q : Check} {r : Refusal} {u : Verdict (Unit {0})} (f : Unit {0} → SeriesAnswer) → paper_check q ≡ u → q ≡ Refused r → Neither ≡ u leads_to f
 ends f p e = rw (← p, e)
 
-pub goes_on : {q : Check} {u : Verdict (Unit {0})} (f : Unit {0} → SeriesAnswer) → paper_check q ≡ u → q ≡ Accepted → f tt ≡ u leads-to f
+pub goes_on : {q : Check} {u : Verdict (Unit {0})} (f : Unit {0} → SeriesAnswer) → paper_check q ≡ u → q ≡ Accepted → f tt ≡ u leads_to f
 goes_on f p e = rw (← p, e)
 
 pub blames : {q : Check} {r : Refusal} {u : Verdict (Unit {0})} (series rest : SeriesAnswer) → paper_check q ≡ u → q ≡ Refused r → series ≡ blamed u series rest
