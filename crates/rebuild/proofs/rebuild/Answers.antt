@@ -9,7 +9,7 @@ use Rattle.refusals.specs.Verdict.{answered, accepted, accepted_is, paper_check,
 use Rattle.clock.specs.Clock.{is_zone}
 use Rattle.clock.specs.Answers.{zone_judged}
 use Rattle.clock.proofs.theory.Judged.{zone_is_small}
-use Rattle.inputs.specs.Inputs.{Inputs, inputs}
+use Rattle.inputs.specs.Inputs.{inputs}
 use Rattle.inputs.specs.Theorems.{known}
 use Rattle.almanac.specs.Layout.{file_of}
 use Rattle.rebuild.specs.declared.old.FileYears.{FileYears}
@@ -18,7 +18,6 @@ use Rattle.rebuilt.specs.Theorems.{no_zone_is_15}
 use Rattle.rebuild.specs.theory.Judging.{paper_years, years_few}
 use Rattle.rebuild.specs.theory.Over.{says_refused, same_says}
 use Rattle.rebuild.specs.theory.Entry.{not_read, old_not_accepted, old_accepted}
-use borrow.Author.Rules.{rules}
 use Rattle.rebuild.specs.declared.old.FileYearsAnswer.TheVariants.{Years as YearsAnswer}
 use Rattle.rebuild.proofs.rebuild.Goals as goal
 use Rattle.rebuild.proofs.rebuild.Goals.{After-is_zone, After-years_in-span, Else-not-is_zone}

@@ -2,12 +2,11 @@
 use mathlib.Core.Path.{◌≡◌, sym, ap, ◌∙◌}
 use lib.ListN.{length}
 use mir.Facts.{to_z-of_z}
-use Rattle.inputs.specs.Inputs.{Inputs, inputs, sun, moon}
+use Rattle.inputs.specs.Inputs.{inputs, sun, moon}
 use Rattle.suis.specs.Ahead.{paper_begin, begun}
 use Rattle.suis.specs.theory.Begun.{begun_answered, begun_refused}
 use Rattle.rebuilt.specs.Rebuild.{most_bytes}
 use Rattle.rebuild.specs.theory.Over.{rebuilt_over, says_refused, old_refused, first_refused}
-use borrow.Author.Rules.{rules}
 use Rattle.rebuild.proofs.known.rebuild_accepted.Goals as goal
 use Rattle.rebuild.proofs.known.rebuild_accepted.Goals.{After-begin-begun}
 

@@ -1,19 +1,17 @@
 -- `rebuild::known::rebuild_found` meets its contract. In the needs, `start` is the function's entry. Assumes nothing.
 use mathlib.Core.Path.{◌≡◌, sym, ◌∙◌}
 use mathlib.Core.Bool.{true}
-use mathlib.Core.List.{List}
 use Prim.Native.Nat.{ℕ, ◌+◌, ◌*◌, ◌/◌, ◌≤◌}
 use native.Mathlib.Omega.{arith}
 use lib.IntN.{ℤ}
 use lib.ListN.{length, replicate, length-replicate}
 use mir.Facts.{to_z-of_z}
 use Rattle.whole.specs.Lists.{placed}
-use Rattle.refusals.specs.Verdict.{Verdict, answered}
+use Rattle.refusals.specs.Verdict.{answered}
 use Rattle.clock.proofs.theory.Table.{few}
-use Rattle.inputs.specs.Inputs.{Inputs, inputs}
+use Rattle.inputs.specs.Inputs.{inputs}
 use Rattle.almanac.specs.Layout.{months_at}
 use Rattle.built.specs.Build.{bytes_of_years}
-use Rattle.build.specs.theory.Walk.{Begins}
 use Rattle.rebuilt.specs.Rebuild.{is_file, most_bytes}
 use Rattle.rebuilt.specs.theory.Given.{is_file_lem}
 use Rattle.kept_or_made.specs.OldDays.{days_of_years}

@@ -1,12 +1,9 @@
 -- `rebuild::new::rebuild_new` meets its contract. In the needs, `start` is the function's entry. Assumes nothing.
 use mathlib.Core.Path.{◌≡◌, sym, ap, ◌∙◌}
-use mathlib.Core.List.{List}
-use Prim.Native.Nat.{ℕ}
-use lib.IntN.{ℤ}
 use lib.ListN.{length}
 use mir.Facts.{to_z-of_z}
-use Rattle.refusals.specs.Verdict.{Verdict, accepted, accepted_is, paper_check}
-use Rattle.inputs.specs.Inputs.{Inputs, inputs, sun, moon, inputs_judged}
+use Rattle.refusals.specs.Verdict.{accepted, accepted_is, paper_check}
+use Rattle.inputs.specs.Inputs.{inputs, sun, moon, inputs_judged}
 use Rattle.inputs.specs.Known.{Known}
 use Rattle.inputs.specs.Theorems.{known}
 use Rattle.suis.specs.Ahead.{paper_begin, begun}
@@ -15,7 +12,6 @@ use Rattle.built.specs.Build.{bytes_of_years}
 use Rattle.rebuilt.specs.Rebuild.{new_file_by}
 use Rattle.kept_or_made.specs.Again.{listed_again}
 use Rattle.rebuild.specs.theory.Over.{fresh_bytes, says_refused, same_says, new_refused, new_accepted, not_built_new, first_refused}
-use borrow.Author.Rules.{rules}
 use Rattle.rebuild.proofs.new.rebuild_new.Goals as goal
 use Rattle.rebuild.proofs.new.rebuild_new.Goals.{After-begin-begun, In_default}
 

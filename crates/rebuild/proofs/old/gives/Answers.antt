@@ -3,12 +3,10 @@ use mathlib.Core.Path.{◌≡◌, sym, ap, ◌∙◌}
 use mathlib.Core.List.{List}
 use Prim.Native.Nat.{ℕ}
 use native.Mathlib.Omega.{arith}
-use borrow.Author.Rules.{rules}
 use lib.ListN.{length}
 use lib.Seq.{length-take-le}
 use mir.Facts.{to_z-of_z}
-use Rattle.refusals.specs.Verdict.{Verdict}
-use Rattle.inputs.specs.Inputs.{Inputs, inputs}
+use Rattle.inputs.specs.Inputs.{inputs}
 use Rattle.almanac.specs.Answers.{paper_written}
 use Rattle.built.specs.Build.{bytes_of_years}
 use Rattle.rebuilt.specs.Rebuild.{most_bytes, is_file}

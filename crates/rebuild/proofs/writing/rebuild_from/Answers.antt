@@ -1,16 +1,13 @@
 -- `rebuild::writing::rebuild_from` meets its contract. In the needs, `start` is the function's entry. Assumes nothing.
 use mathlib.Core.Path.{◌≡◌, refl, sym, ap, ◌∙◌}
-use mathlib.Core.List.{List}
 use Prim.Native.Nat.{ℕ, ◌*◌, ◌≤◌}
 use native.Mathlib.Omega.{arith}
-use lib.IntN.{ℤ}
 use lib.ListN.{length, take, length-replicate}
 use lib.Seq.{take_at}
 use mir.Syntax.{w64}
 use mir.Val.{to_z, of_z}
 use mir.Facts.{to_z-of_z}
-use Rattle.refusals.specs.Verdict.{Verdict}
-use Rattle.inputs.specs.Inputs.{Inputs, inputs}
+use Rattle.inputs.specs.Inputs.{inputs}
 use Rattle.content.specs.Content.{Content, content}
 use Rattle.almanac.specs.Answers.{bytes_into}
 use Rattle.built.specs.Build.{sui_words, month_words, bytes_of_years}
