@@ -6,7 +6,6 @@ reference.py --random N    compares the program with it on N random inputs, lawf
 """
 import datetime
 import os
-import platform
 import random
 import struct
 import subprocess
@@ -163,17 +162,13 @@ def random_input(rng):
 
 
 def built_program(name='list'):
-    """The words that run the proved program as the launcher does: by the toolchain's loader, and its emulator where the machine is no x86-64."""
+    """The words that run the proved program; to prove and build it rt runs it too, here on an empty input."""
     here = os.path.dirname(os.path.dirname(os.path.realpath(__file__)))
-    done = subprocess.run(['rt', 'check', name], cwd=here, stdout=subprocess.PIPE, stderr=subprocess.STDOUT)
+    crate = os.path.join(here, 'crates', name)
+    done = subprocess.run(['rt', 'run'], cwd=crate, stdin=subprocess.DEVNULL, stdout=subprocess.PIPE, stderr=subprocess.STDOUT)
     if done.returncode:
         sys.exit(done.stdout.decode()[-2000:] + 'the program is not proved')
-    guide = subprocess.run(['rt', 'doc'], stdout=subprocess.PIPE, check=True).stdout.decode().strip()
-    tools = os.path.join(os.path.dirname(os.path.dirname(guide)), 'on', platform.machine(), 'toolchain')
-    emulator, loader = os.path.join(tools, 'bin/qemu-x86_64'), os.path.join(tools, 'lib/ld-linux-x86-64.so.2')
-    words = [emulator] if os.access(emulator, os.X_OK) else []
-    words += [loader, '--library-path', os.path.join(tools, 'lib')] if os.access(loader, os.X_OK) else []
-    return words + [os.path.join(here, 'target/bin', name)]
+    return [os.path.join(crate, 'out', name)]
 
 
 def main():

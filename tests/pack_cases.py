@@ -126,7 +126,7 @@ def compare(count):
     for k, text in enumerate(texts):
         got = subprocess.run(program, input=text, stdout=subprocess.PIPE, check=True).stdout
         if got != packed(text):
-            kept = os.path.join(here, 'target', 'differs.txt')
+            kept = os.path.join(os.path.dirname(program[-1]), 'differs.txt')
             with open(kept, 'wb') as f:
                 f.write(text)
             sys.exit('text %d differs; it is kept in %s' % (k, kept))

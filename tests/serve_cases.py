@@ -100,7 +100,7 @@ def compare(count):
         got = subprocess.run(program, input=b''.join(given), stdout=subprocess.PIPE, check=True).stdout
         for case, line, wanted in zip(given, got.splitlines(True), said):
             if line != wanted:
-                kept = os.path.join(here, 'target', 'differs.in')
+                kept = os.path.join(os.path.dirname(program[-1]), 'differs.in')
                 with open(kept, 'wb') as f:
                     f.write(case)
                 sys.exit('a case differs; it is kept in %s' % kept)

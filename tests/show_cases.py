@@ -212,7 +212,7 @@ def compare(count):
         data = random_file(rng)
         got = subprocess.run(program, input=data, stdout=subprocess.PIPE, check=True).stdout.decode('ascii')
         if got != shown(data):
-            kept = os.path.join(here, 'target', 'differs.alm')
+            kept = os.path.join(os.path.dirname(program[-1]), 'differs.alm')
             with open(kept, 'wb') as f:
                 f.write(data)
             sys.exit('file %d differs; it is kept in %s' % (k, kept))

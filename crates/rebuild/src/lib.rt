@@ -1,4 +1,6 @@
 // The rebuild: the suis of an old almanac file from corrected inputs, and the years of those that the correction leaves as they were (document 02, orders 1 and 5).
+#![tactic(auto)]
+
 ghost use Rattle.std.specs.Prelude.{◌≡◌, length};
 ghost use Rattle.refusals.specs.Lent.{written_into};
 ghost use Rattle.inputs.specs.Inputs.{inputs};

@@ -1,5 +1,7 @@
 // The rebuild from inputs of bytes: an old almanac file, the input that it was built from, and a new one. The bytes of an input come in pieces, of which the words are
 // kept (`pieces`).
+#![tactic(auto)]
+
 ghost use Rattle.std.specs.Prelude.{◌≡◌, length};
 ghost use Rattle.refusals.specs.Lent.{written_into};
 ghost use Rattle.rebuilt.specs.Rebuild.{paper_rebuilt, counted, new_bytes, kept_years};

@@ -8,7 +8,7 @@ use Rattle.words.specs.Words.{words}
 use Rattle.clock.specs.Answers.{zone_judged}
 use Rattle.inputs.specs.Inputs.{Inputs}
 use Rattle.layout.specs.declared.inner.Places.{Places}
-use Rattle.layout.specs.Layout.{places, inputs_at}
+use Rattle.layout.specs.Layout.{places}
 use Rattle.built.specs.Build.{bytes_built}
 use Rattle.building.specs.Building.{built_from_rest, built_from_words, length_kept, built_from}
 use Rattle.rebuilt.specs.Rebuild.{NewFile}

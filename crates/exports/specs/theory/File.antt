@@ -158,6 +158,6 @@ module _ (old new : Inputs) (zone : ℤ) (file : List ℕ) (room places : ℕ) w
       let few = built_within_room new zone y.first (pos y.count) most_bytes all.0.bytes (most_bytes_are_enough new zone y.first (pos y.count) room fresh.is_fresh) in
       let listed = few_years (kept old new zone) y.first y.count in
       let is_given = (given_means old zone file y).0 fresh.is_given in
-      let many = (years_few file {y = y} (rw is_given.is_read (ap answered is_given.years-are))).1 in
+      let many = (years_few file {y = y} (rw is_given.is_read (ap answered is_given.years_are))).1 in
       let same : record { bytes = length all.0.bytes; years = length all.0.years } ≡ r = answers_apart all.2 in
       omega (arith, few, listed, many, ap length fresh.are_kept, ap (λ (r : Rebuilt). r.bytes) same, ap (λ (r : Rebuilt). r.years) same))

@@ -5,7 +5,7 @@ use Rattle.std.proofs.Math.Seq.{append_snoc}
 use Rattle.std.proofs.lemmas.List.{set_split}
 use Rattle.whole.specs.Lists.{placed, placed_none}
 use Rattle.whole.specs.Evaluated.{same_words}
-use Rattle.refusals.specs.Verdict.{Verdict, answered, refused, refused_then, answered_then, answer_or_refusal, ◌then◌}
+use Rattle.refusals.specs.Verdict.{Verdict, answered, refused, refused_then, answered_then, answer_or_refusal}
 use Rattle.months.specs.declared.Sui.{Sui}
 use Rattle.months.specs.declared.SuiDays.{SuiDays}
 use Rattle.months.specs.Months.{sui_of}
