@@ -71,25 +71,27 @@ fn says_writable(told: &str) -> bool {
     false
 }
 
-// What the system tells of descriptor 3.
+// What the system tells of descriptor 3, nothing where it is closed; an error where the system tells of no descriptor.
 fn third_is_writable<R: Files>(rt: &R) -> io::Result<bool> {
     let mut told = [0u8; 4096];
-    let mut file = File::open(rt, "/proc/self/fdinfo/3")?;
-    let n = read_full(&mut file, &mut told)?;
-    match str::from_utf8(&told[..n]) {
-        Ok(text) => Ok(says_writable(text)),
+    let _asked = File::open(rt, "/proc/self/status")?;
+    match File::open(rt, "/proc/self/fdinfo/3") {
+        Ok(mut file) => {
+            let n = read_full(&mut file, &mut told)?;
+            match str::from_utf8(&told[..n]) {
+                Ok(text) => Ok(says_writable(text)),
+                Err(_) => Ok(false),
+            }
+        }
         Err(_) => Ok(false),
     }
 }
 
-// What descriptor 3 writes to, where whoever started the program opened it for writing; a file gets what is written at its end. It is to be asked before the
-// program opens a file of its own, which would be descriptor 3.
-pub fn open_third<R: Files>(rt: &R) -> Option<R::File> {
-    match third_is_writable(rt) {
-        Ok(true) => OpenOptions::new()
-            .append(true)
-            .open(rt, "/proc/self/fd/3")
-            .ok(),
-        _ => None,
+// What descriptor 3 writes to, where whoever started the program opened it for writing, and else what keeps nothing; a file gets what is written at its end. It is
+// to be asked after the program opened its inputs: a handle to them may have the number of a descriptor that was closed.
+pub fn open_third<R: Files>(rt: &R) -> io::Result<R::File> {
+    if third_is_writable(rt)? {
+        return OpenOptions::new().append(true).open(rt, "/proc/self/fd/3");
     }
+    OpenOptions::new().append(true).open(rt, "/dev/null")
 }
