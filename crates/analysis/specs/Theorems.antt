@@ -29,7 +29,7 @@ Q_bound {x} h n = Q_within (pos S) x h.within n
 pub W_bound : {x : ℤ} → Within S x → (n : ℕ) → nat_abs (W (pos S) x n) ≤ suc n * S ^ n
 W_bound {x} h n = W_within (pos S) x h.within n
 
--- The recurrence of Q with a term f(n) added at each step, from A(0) = 0 and A(1) = f(0): if |f(0)| ≤ a and |f(k)| ≤ F-as-Sᵏ after it, then
+-- The recurrence of Q with a term f(n) added at each step, from A(0) = 0 and A(1) = f(0): if |f(0)| ≤ a and |f(k)| ≤ F·Sᵏ after it, then
 -- |A(n+1)| ≤ ((n+1)·a + F·n(n+1)/2)·Sⁿ. Rounding is bounded by it (a = 0, F = 1), and so are steps (a = 1, F = 2).
 pub forced_bound : {y : ℤ} {f A : ℕ → ℤ} → Forced (pos S) y f A → Within S y → (a F : ℕ) → nat_abs (f 0) ≤ a → ((k : ℕ) → nat_abs (f (suc k)) ≤ F * S ^ suc k) → (n : ℕ) → 2 * nat_abs (A (suc n)) ≤ (2 * suc n * a + F * (n * suc n)) * S ^ n
 forced_bound r h a F start drive n = forced_within r a F h.within start drive n

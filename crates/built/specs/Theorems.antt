@@ -9,12 +9,12 @@ use Rattle.refusals.specs.Verdict.{Verdict, answered, accepted, refuse_when, ◌
 use Rattle.refusals.specs.Lent.{written_into}
 use Rattle.inputs.specs.Inputs.{Inputs, judged_in}
 use Rattle.inputs.specs.Known.{Known}
-use Rattle.inputs.specs.Theorems.{known}
+use Rattle.inputs.proofs.Theorems.{known}
 use Rattle.months.specs.declared.Sui.{Sui}
 use Rattle.months.specs.Answers.{no_sui}
 use Rattle.months.proofs.theory.Suis.{month}
 use Rattle.sui.specs.Sui.{sui_for, sui_of_year}
-use Rattle.sui.specs.theory.Answered.{inputs_answered}
+use Rattle.sui.proofs.theory.Answered.{inputs_answered}
 use Rattle.almanac.specs.declared.WriteAnswer.{WriteAnswer}
 use Rattle.content.specs.Content.{Content, sui_count, year_at, count_at, month_at, months_before, lawful}
 use Rattle.almanac.specs.Layout.{bytes_of, file_of}

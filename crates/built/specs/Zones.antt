@@ -9,7 +9,7 @@ use Rattle.marks.specs.Listed.{listed_marks}
 use Rattle.inputs.specs.Inputs.{Inputs, sun, moon, judged_in}
 use Rattle.months.specs.declared.Sui.{Sui}
 use Rattle.sui.specs.Sui.{is_zhongqi, is_new_moon}
-use Rattle.sui.specs.Zones.{OneDay, same_days_same_sui}
+use Rattle.sui.proofs.Zones.{OneDay, same_days_same_sui}
 use Rattle.built.specs.Build.{bytes_built, built_by}
 
 -- no two zones are judged differently

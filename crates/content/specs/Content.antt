@@ -21,11 +21,11 @@ content leap suis months = record { leap = leap; suis = suis; months = months }
 abbrev pub leap_words : Content → List ℤ
 leap_words c = c.leap
 
-abbrev pub sui_words_lem : Content → List ℤ
-sui_words_lem c = c.suis
+abbrev pub sui_words : Content → List ℤ
+sui_words c = c.suis
 
-abbrev pub month_words_lem : Content → List ℤ
-month_words_lem c = c.months
+abbrev pub month_words : Content → List ℤ
+month_words c = c.months
 
 -- ---- the records
 abbrev pub entry_count : Content → ℕ

@@ -13,7 +13,7 @@ use Rattle.series.specs.Acceptance.{Accepted, series_judged}
 use Rattle.series.specs.Examples.{three, sun_segment}
 use Rattle.marks.specs.Marks.{index_at}
 use Rattle.marks.specs.Listed.{first_reached, last_reached, second_of_mark, MarkAt}
-use Rattle.marks.specs.Theorems.{located_nowhere_else}
+use Rattle.marks.proofs.Theorems.{located_nowhere_else}
 use Rattle.corrected.specs.Shared.{Shared, Stays}
 use Rattle.corrected.specs.theory.Compared.{SameBefore, none_before, one_before, none_behind, one_behind}
 use Rattle.corrected.specs.theory.Kept.{stays_outside}

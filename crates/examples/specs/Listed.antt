@@ -13,7 +13,7 @@ use Rattle.series.specs.Examples.{sun, moon}
 use Rattle.marks.specs.Marks.{index_at}
 use Rattle.marks.specs.Crossings.{marked, numbered}
 use Rattle.marks.specs.Listed.{listed_marks, first_reached, last_reached, second_of_mark, MarkAt}
-use Rattle.marks.specs.Theorems.{listed_by_index, located_nowhere_else}
+use Rattle.marks.proofs.Theorems.{listed_by_index, located_nowhere_else}
 
 -- ---- the Sun's: marks 1 and 2. Mark 0, at its first second, is not among them
 sun_accepted : Accepted sun

@@ -2,7 +2,7 @@
 ghost use Rattle.std.specs.Prelude.{◌≡◌, length};
 ghost use Rattle.refusals.specs.Lent.{written_into};
 ghost use Rattle.inputs.specs.Inputs.{inputs};
-ghost use Rattle.content.specs.Content.{content, leap_words, sui_words_lem, month_words_lem};
+ghost use Rattle.content.specs.Content.{content, leap_words, sui_words, month_words};
 ghost use Rattle.almanac.specs.Answers.{checked_file, content_read, read_file, bytes_to_write, all_bytes, written_file};
 ghost use Rattle.built.specs.Build.{bytes_built, file_built};
 ghost use Rattle.rebuilt.specs.Rebuild.{rebuilt, counted, new_bytes, kept_years};
@@ -32,8 +32,8 @@ pub extern "C" fn hzk_read_file(
     ensures value { result ≡ number_of (read_file file.now (length leap.old) (length suis.old) (length months.old)) }
     ensures answer_after { answer.new ≡ record_of (read_file file.now (length leap.old) (length suis.old) (length months.old)) file_numbers }
     ensures leap_after { leap.new ≡ written_into (content_read file.now (length leap.old) (length suis.old) (length months.old)) leap_words leap.old }
-    ensures suis_after { suis.new ≡ written_into (content_read file.now (length leap.old) (length suis.old) (length months.old)) sui_words_lem suis.old }
-    ensures months_after { months.new ≡ written_into (content_read file.now (length leap.old) (length suis.old) (length months.old)) month_words_lem months.old }
+    ensures suis_after { suis.new ≡ written_into (content_read file.now (length leap.old) (length suis.old) (length months.old)) sui_words suis.old }
+    ensures months_after { months.new ≡ written_into (content_read file.now (length leap.old) (length suis.old) (length months.old)) month_words months.old }
 {
     let read = reader::read_file(file, leap, suis, months);
     record::tell(record::file_record(read), answer)

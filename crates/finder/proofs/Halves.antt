@@ -16,10 +16,10 @@ use Rattle.series.specs.Acceptance.{Accepted}
 use Rattle.series.proofs.Theorems.{accepted_rises}
 use Rattle.series.proofs.theory.Span.{span_ordered, span_few}
 use Rattle.marks.specs.Marks.{index_at, marks}
-use Rattle.marks.specs.theory.Indices.{index_mono}
-use Rattle.marks.specs.theory.StretchLaws.{joined, none, neighbours, length_is, few}
+use Rattle.marks.proofs.theory.Indices.{index_mono}
+use Rattle.marks.proofs.theory.StretchLaws.{joined, none, neighbours, length_is, few}
 use Rattle.marks.specs.Words.{mark_words}
-use Rattle.marks.specs.theory.Words.{words_append}
+use Rattle.marks.proofs.theory.Words.{words_append}
 use Rattle.marks.specs.Stretch.{Stretch, StretchOf}
 use Rattle.marks.specs.Listed.{first_reached, last_reached}
 

@@ -15,12 +15,12 @@ use Rattle.marks.specs.declared.ListAnswer.{ListAnswer}
 use Rattle.marks.specs.Answers.{paper_count, paper_list, counted_marks, listed_into, words_listed}
 use Rattle.marks.specs.OneResult as of-marks
 use Rattle.inputs.specs.Inputs.{inputs_judged}
-use Rattle.inputs.specs.Theorems as of-inputs
+use Rattle.inputs.proofs.Theorems as of-inputs
 use Rattle.months.specs.declared.Month.{Month}
 use Rattle.months.specs.declared.SuiAnswer.{SuiAnswer}
 use Rattle.months.specs.Answers.{sui_answer}
 use Rattle.sui.specs.Sui.{sui_for}
-use Rattle.sui.specs.Theorems as of_sui
+use Rattle.sui.proofs.Theorems as of_sui
 use Rattle.almanac.specs.declared.WriteAnswer.{WriteAnswer}
 use Rattle.almanac.specs.Answers.{paper_written, all_bytes}
 use Rattle.built.specs.Build.{bytes_built, file_built}

@@ -1,5 +1,4 @@
 pub mod Inputs
 pub mod Known
 pub mod theory
-pub mod Theorems
 pub mod Examples

@@ -25,8 +25,9 @@ use Rattle.months.proofs.theory.Suis.{sui_count_lem}
 use Rattle.turns.specs.Listed.{turn_days}
 use Rattle.turns.specs.declared.inner.TurnList.{TurnList}
 use Rattle.sui.specs.Sui.{sui_days, sui_of_year}
-use Rattle.sui.specs.theory.Answered.{days_found_lem}
-use Rattle.sui.specs.theory.Found.{first_solstice_of, zhongqi_from, sui_days_are}
+use Rattle.sui.proofs.theory.Answered.{days_found_lem}
+use Rattle.sui.specs.theory.Found.{zhongqi_from}
+use Rattle.sui.proofs.theory.Found.{first_solstice_of, sui_days_are}
 use Rattle.suis.specs.declared.inner.Places.{Places}
 use Rattle.suis.specs.theory.Next.{next_year}
 use Rattle.built.specs.Build.{suis_from}

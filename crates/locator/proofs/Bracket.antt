@@ -12,8 +12,8 @@ use Rattle.whole.specs.Distance.{distance_from, clash, back_one, lies_after, dis
 use Rattle.series.specs.Rising.{Rising}
 use Rattle.marks.specs.Marks.{index_at, second_of}
 use Rattle.marks.specs.Stretch.{Bracket}
-use Rattle.marks.specs.theory.Indices.{reached, ahead}
-use Rattle.marks.specs.theory.Located.{located_only}
+use Rattle.marks.proofs.theory.Indices.{reached, ahead}
+use Rattle.marks.proofs.theory.Located.{located_only}
 use Rattle.finder.proofs.Halves.{Inside}
 
 module _ {v : ℤ → ℤ} {size : ℕ} {first last j lo hi below above : ℤ} (b : Bracket v size first last j lo hi below above) where

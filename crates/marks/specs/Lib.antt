@@ -4,7 +4,4 @@ pub mod Listed
 pub mod Words
 pub mod Stretch
 pub mod Answers
-pub mod theory
-pub mod Theorems
 pub mod OneResult
-pub mod Examples

@@ -3,7 +3,7 @@
 
 ghost use Rattle.std.specs.Prelude.{◌≡◌, length};
 ghost use Rattle.refusals.specs.Lent.{written_into};
-ghost use Rattle.content.specs.Content.{leap_words, sui_words_lem, month_words_lem};
+ghost use Rattle.content.specs.Content.{leap_words, sui_words, month_words};
 ghost use Rattle.almanac.specs.Answers.{paper_file, checked_file, content_read, read_file};
 
 use almanac::FileAnswer;
@@ -34,8 +34,8 @@ pub fn check_file(file: &[u8]) -> FileAnswer
 pub fn read_file(file: &[u8], leap: &mut [i64], suis: &mut [i64], months: &mut [i64]) -> FileAnswer
     ensures result_value { paper_file result ≡ read_file file.now (length leap.old) (length suis.old) (length months.old) }
     ensures leap_after { leap.new ≡ written_into (content_read file.now (length leap.old) (length suis.old) (length months.old)) leap_words leap.old }
-    ensures suis_after { suis.new ≡ written_into (content_read file.now (length leap.old) (length suis.old) (length months.old)) sui_words_lem suis.old }
-    ensures months_after { months.new ≡ written_into (content_read file.now (length leap.old) (length suis.old) (length months.old)) month_words_lem months.old }
+    ensures suis_after { suis.new ≡ written_into (content_read file.now (length leap.old) (length suis.old) (length months.old)) sui_words suis.old }
+    ensures months_after { months.new ≡ written_into (content_read file.now (length leap.old) (length suis.old) (length months.old)) month_words months.old }
 {
     let checked = check_file(file);
     match checked {

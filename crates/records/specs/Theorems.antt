@@ -11,7 +11,7 @@ use Rattle.months.proofs.theory.Suis as suis
 use Rattle.months.proofs.theory.Suis.{IsSui, days_of_sui}
 use Rattle.inputs.specs.Inputs.{Inputs}
 use Rattle.sui.specs.Sui.{sui_for}
-use Rattle.sui.specs.Theorems.{answered_is_sui}
+use Rattle.sui.proofs.Theorems.{answered_is_sui}
 use Rattle.records.specs.Records.{records_of}
 
 has_its_months : {year : ℤ} {moons zhongqi : List ℤ} {sui : Sui} → IsSui year moons zhongqi sui → length (records_of sui) ≡ sui.count

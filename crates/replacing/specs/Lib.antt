@@ -1,4 +1,3 @@
 pub mod Replaced
 pub mod theory
-pub mod Theorems
 pub mod Examples

@@ -2,7 +2,6 @@ pub mod Shown
 pub mod Rows
 pub mod Answers
 pub mod OneResult
-pub mod Theorems
 pub mod Columns
 pub mod Sizes
 pub mod Examples

@@ -1,5 +1,3 @@
 pub mod Sui
 pub mod Examples
-pub mod Theorems
-pub mod Zones
 pub mod theory

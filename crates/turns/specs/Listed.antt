@@ -15,11 +15,11 @@ use Rattle.series.specs.Acceptance.{Accepted}
 use Rattle.marks.specs.Marks.{Mark}
 use Rattle.marks.specs.Crossings.{marked, numbered}
 use Rattle.marks.specs.Listed.{listed_marks, first_reached, last_reached, second_of_mark}
-use Rattle.marks.specs.Theorems.{listed_by_index}
-use Rattle.marks.specs.theory.Nth.{indices_ordered, marks_length, marks_few}
+use Rattle.marks.proofs.Theorems.{listed_by_index}
+use Rattle.marks.proofs.theory.Nth.{indices_ordered, marks_length, marks_few}
 use Rattle.inputs.specs.Inputs.{day_of_mark}
 use Rattle.inputs.specs.Known.{Ready}
-use Rattle.inputs.specs.Theorems.{mark_days_rise}
+use Rattle.inputs.proofs.Theorems.{mark_days_rise}
 use Rattle.whole.specs.Selected.{select, tabulate_same, tabulate_cons, Passing, selected}
 use Rattle.turns.specs.theory.Counting.{Rises, by}
 use Rattle.turns.specs.Turns.{turn_of, circle_of, some_circle, is_turn, gap, first_turn, turn_index, place_of, at_place, is_turn_lem, turn_is, turns_up_to, turn_up_to, up_to_turn}

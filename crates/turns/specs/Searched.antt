@@ -15,7 +15,7 @@ use Rattle.series.specs.Acceptance.{Accepted}
 use Rattle.series.proofs.theory.Span.{start_in_span, last_in_span, value_in_span}
 use Rattle.marks.specs.Marks.{index_at}
 use Rattle.marks.specs.Listed.{first_reached, last_reached}
-use Rattle.marks.specs.theory.Nth.{marks_few, marks_length}
+use Rattle.marks.proofs.theory.Nth.{marks_few, marks_length}
 use Rattle.inputs.specs.Known.{Ready}
 use Rattle.turns.specs.declared.inner.TurnList.{TurnList}
 use Rattle.turns.specs.Turns.{circle_of, small_circle, some_circle, turn_of, at_place}

@@ -6,7 +6,7 @@ use Rattle.whole.specs.Parts.{ℤ_rules, parts_add}
 use Rattle.whole.specs.Distance.{distance_from, back_one, distance_of, one_nearer}
 use Rattle.marks.specs.Marks.{Mark, index_at, mark_at, marks_after, marks}
 use Rattle.marks.specs.Crossings.{marked}
-use Rattle.marks.specs.theory.StretchLaws.{lists_none, lists_one}
+use Rattle.marks.proofs.theory.StretchLaws.{lists_none, lists_one}
 
 module _ (v : ℤ → ℤ) (size : ℕ) {a b : ℤ} where
   -- a second is left: the next one lists what it lists, and then come the others

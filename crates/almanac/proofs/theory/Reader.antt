@@ -6,7 +6,7 @@ use Rattle.refusals.specs.Lent.{written_into}
 use Rattle.whole.specs.Booleans.{neither}
 use Rattle.clock.proofs.theory.Table.{few}
 use Rattle.almanac.specs.declared.Counts.{Counts}
-use Rattle.content.specs.Content.{Content, lawful, leap_words, sui_words_lem, month_words_lem}
+use Rattle.content.specs.Content.{Content, lawful, leap_words, sui_words, month_words}
 use Rattle.almanac.specs.Layout.{end_at, content_at, file_of}
 use Rattle.almanac.specs.Answers.{counts_in, checked_file, content_read, read_file}
 use Rattle.almanac.specs.Theorems as theorems
@@ -45,10 +45,10 @@ module _ (file : List ℕ) (leap suis months : List ℤ) where
   Promises v leap-last suis-last months-last =
       (v ≡ read_file file (length leap) (length suis) (length months))
       × ((leap-last ≡ written_into (content_read file (length leap) (length suis) (length months)) leap_words leap)
-      × ((suis-last ≡ written_into (content_read file (length leap) (length suis) (length months)) sui_words_lem suis)
-      × (months-last ≡ written_into (content_read file (length leap) (length suis) (length months)) month_words_lem months)))
+      × ((suis-last ≡ written_into (content_read file (length leap) (length suis) (length months)) sui_words suis)
+      × (months-last ≡ written_into (content_read file (length leap) (length suis) (length months)) month_words months)))
 
-  promises : (v : Verdict Content) → content_read file (length leap) (length suis) (length months) ≡ v → Promises (v then (λ c. answered (counts_in c))) (written_into v leap_words leap) (written_into v sui_words_lem suis) (written_into v month_words_lem months)
+  promises : (v : Verdict Content) → content_read file (length leap) (length suis) (length months) ≡ v → Promises (v then (λ c. answered (counts_in c))) (written_into v leap_words leap) (written_into v sui_words suis) (written_into v month_words months)
   unfolding read_file
   promises v e = rw e (refl, (refl, (refl, refl)))
 

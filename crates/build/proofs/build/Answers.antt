@@ -7,7 +7,7 @@ use Rattle.whole.specs.Tests.{in_range}
 use Rattle.refusals.specs.Verdict.{accepted, paper_check, accepted_is}
 use Rattle.refusals.specs.declared.Check.TheVariants.{Accepted}
 use Rattle.inputs.specs.Inputs.{Inputs, inputs, judged_in}
-use Rattle.inputs.specs.Theorems.{known, accepted_in}
+use Rattle.inputs.proofs.Theorems.{known, accepted_in}
 use Rattle.built.specs.theory.Count.{count_natural, count_small}
 use Rattle.build.specs.theory.Count.{inputs_refused, count_refused, years_built}
 use Rattle.build.proofs.build.Goals as goal

@@ -11,8 +11,8 @@ use Rattle.inputs.specs.Inputs.{Inputs, moon}
 use Rattle.inputs.specs.Known.{Known}
 use Rattle.turns.specs.Listed.{turns_of, turn_day}
 use Rattle.sui.specs.Sui.{new_moon_days}
-use Rattle.sui.specs.theory.Answered.{turn_day_has_date}
-use Rattle.sui.specs.theory.Solstices.{new_moons_are}
+use Rattle.sui.proofs.theory.Answered.{turn_day_has_date}
+use Rattle.sui.proofs.theory.Solstices.{new_moons_are}
 
 pub new_moons_dated : (i : Inputs) (zone : ℤ) → Known i → Within 1000 zone → (k : ℕ) → k < length (new_moon_days i zone) → has_date (get_or (new_moon_days i zone) k (pos 0)) ≡ true
 new_moons_dated i zone known z k h =

@@ -16,8 +16,8 @@ use Rattle.months.specs.Months.{last_not_after, sui_of, sui_in}
 use Rattle.months.proofs.Theorems.{Meet, months_meet}
 use Rattle.months.proofs.theory.Suis.{month}
 use Rattle.sui.specs.Sui.{new_moon_days, solstices_in, zhongqi_days, one_solstice, sui_days, sui_of_year}
-use Rattle.sui.specs.Theorems.{solstices_24_apart, zhongqi_every_second_mark}
-use Rattle.sui.specs.theory.Answered.{days_found_lem}
+use Rattle.sui.proofs.Theorems.{solstices_24_apart, zhongqi_every_second_mark}
+use Rattle.sui.proofs.theory.Answered.{days_found_lem}
 
 module _ (i : Inputs) (zone : ℤ) (known : Known i) where
   -- the last new-moon day not after a mark of the Sun

@@ -22,8 +22,8 @@ use Rattle.months.proofs.theory.Leap.{leap_of_others}
 use Rattle.months.proofs.theory.Listed.{at_most_thirteen}
 use Rattle.months.proofs.theory.Suis.{month, no_bad_month, sui_count_lem, month_is, handle_is, first_is, end_is}
 use Rattle.sui.specs.Sui.{new_moon_days, zhongqi_days, sui_days, sui_of_year}
-use Rattle.sui.specs.Theorems.{thirteen_zhongqi, new_moon_days_rise}
-use Rattle.sui.specs.theory.Answered.{days_found_lem}
+use Rattle.sui.proofs.Theorems.{thirteen_zhongqi, new_moon_days_rise}
+use Rattle.sui.proofs.theory.Answered.{days_found_lem}
 use Rattle.built.specs.theory.Dated.{new_moons_dated, last_day_dated}
 
 -- the rules of one sui; `leap` is the place of its leap month, 12 in a sui of twelve

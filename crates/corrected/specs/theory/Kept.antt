@@ -13,9 +13,9 @@ use Rattle.series.specs.Rising.{Rising}
 use Rattle.series.proofs.Theorems.{accepted_rises}
 use Rattle.series.proofs.theory.Span.{segment_in_span}
 use Rattle.marks.specs.Listed.{reached_at, first_reached, last_reached, second_of_mark, MarkAt}
-use Rattle.marks.specs.Theorems.{located_crossing, located_nowhere_else}
-use Rattle.marks.specs.theory.Indices.{reaches, not_reached, index_mono}
-use Rattle.marks.specs.theory.Located.{side}
+use Rattle.marks.proofs.Theorems.{located_crossing, located_nowhere_else}
+use Rattle.marks.proofs.theory.Indices.{reaches, not_reached, index_mono}
+use Rattle.marks.proofs.theory.Located.{side}
 use Rattle.corrected.specs.Shared.{Shared, Stays}
 use Rattle.corrected.specs.theory.Compared.{SameAt}
 use Rattle.corrected.specs.theory.Values.{lies_before, lies_from, before_lies, same_value, first_in_span, last_in_span}

@@ -17,7 +17,7 @@ use Rattle.almanac.specs.Answers.{counts_in, checked_file, too_short, content_re
 use Rattle.almanac.proofs.theory.Reader.{checked}
 use Rattle.built.specs.Build.{suis_by, content_by, bytes_by, built_by, content_built, bytes_of_years, bytes_built, file_built}
 use Rattle.sui.specs.Sui.{sui_of_year}
-use Rattle.sui.specs.theory.Answered.{inputs_answered}
+use Rattle.sui.proofs.theory.Answered.{inputs_answered}
 use Rattle.rebuilt.specs.declared.Rebuilt.{Rebuilt}
 use Rattle.rebuilt.specs.Rebuild.{NewFile, years_in, is_file, most_bytes, given_by, new_file_by, rebuilt_by, kept_by, kept, rebuilt, counted}
 use Rattle.rebuilt.specs.Theorems.{rebuilt_is_fresh, given_means, most_bytes_are_enough}

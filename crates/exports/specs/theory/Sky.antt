@@ -11,13 +11,13 @@ use Rattle.series.specs.Series.{Series, segments, value_at, last_second, covers}
 use Rattle.series.specs.Acceptance.{Accepted, bad_range, slow, bad_joint, series_judged, value_of}
 use Rattle.series.proofs.theory.Span.{span_few}
 use Rattle.served.specs.Served.{Side, near, long, chosen, Served, served_by, serves}
-use Rattle.served.specs.Theorems.{segment_there}
+use Rattle.served.proofs.Theorems.{segment_there}
 use Rattle.replacing.specs.Replaced.{replaced, series_with, segment_replaced, segment_checked}
 use Rattle.marks.specs.Words.{mark_words}
 use Rattle.marks.specs.Listed.{listed_marks}
 use Rattle.marks.specs.Answers.{counted_marks, listed_into}
-use Rattle.marks.specs.Theorems.{listed_only_when}
-use Rattle.marks.specs.theory.StretchLaws.{few}
+use Rattle.marks.proofs.Theorems.{listed_only_when}
+use Rattle.marks.proofs.theory.StretchLaws.{few}
 use Rattle.inputs.specs.Inputs.{Inputs, sun, moon, any_early, inputs_judged, judged_in}
 use Rattle.answers.specs.Fits.{Fits, in_table, none, itself, served_size, answer, test, ◌and◌, and_then, with_answer}
 use Rattle.exports.specs.theory.Time.{zone_fits, leap_fits}

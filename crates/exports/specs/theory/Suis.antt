@@ -27,7 +27,7 @@ use Rattle.months.proofs.theory.Days.{found_twelve}
 use Rattle.months.proofs.theory.Listed.{at_most_thirteen}
 use Rattle.months.proofs.theory.Suis.{IsSui, days_of_sui, sui_is}
 use Rattle.sui.specs.Sui.{one_solstice, solstices_of, new_moon_days_of, zhongqi_days_of, days_by_marks, sui_days, sui_of_year, sui_for}
-use Rattle.sui.specs.Theorems.{answered_is_sui}
+use Rattle.sui.proofs.Theorems.{answered_is_sui}
 use Rattle.built.specs.Build.{months_in}
 use Rattle.built.specs.theory.Words.{length_words_of}
 use Rattle.answers.specs.Record.{record_of, no_numbers, count_numbers}

@@ -16,8 +16,8 @@ use Rattle.marks.specs.Stretch.{StretchOf}
 use Rattle.marks.specs.Listed.{marks_between, listed_marks}
 use Rattle.refusals.specs.Lent.{written_into}
 use Rattle.marks.specs.Answers.{paper_list, listed_into, Answered}
-use Rattle.marks.specs.theory.Words.{words_length}
-use Rattle.marks.specs.theory.Answered.{answered_means}
+use Rattle.marks.proofs.theory.Words.{words_length}
+use Rattle.marks.proofs.theory.Answered.{answered_means}
 use Rattle.finder.proofs.Halves.{span, marks_of}
 use Rattle.finder.proofs.list_marks.Goals as goal
 use Rattle.finder.proofs.list_marks.Goals.{After-last_reached-highest, In-Marks}

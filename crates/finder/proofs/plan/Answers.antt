@@ -11,7 +11,7 @@ use Rattle.series.specs.Series.{Series, series}
 use Rattle.series.specs.Acceptance.{Accepted}
 use Rattle.marks.specs.Listed.{listed_marks}
 use Rattle.marks.specs.Words.{mark_words}
-use Rattle.marks.specs.theory.Words.{words_length}
+use Rattle.marks.proofs.theory.Words.{words_length}
 use Rattle.finder.proofs.plan.Goals as goal
 use Rattle.finder.proofs.plan.Goals.{After-count-count, In_default}
 

@@ -14,7 +14,7 @@ use Rattle.inputs.specs.Inputs.{day_of_mark}
 use Rattle.turns.specs.Turns.{circle_of, gap, turn_index, up_to_turn}
 use Rattle.turns.specs.Listed.{first_turn_of, turn_index_of, turns_of, turn_after, turn_by_last}
 use Rattle.sui.specs.theory.Found.{zhongqi_from}
-use Rattle.sui.specs.theory.Solstices.{one_circle_on}
+use Rattle.sui.proofs.theory.Solstices.{one_circle_on}
 use Rattle.suis.specs.Ahead.{Ahead}
 use Rattle.kept_days.specs.KeptDays.{outside_says, DaysKept, ZhongqiKept}
 use Rattle.suis.specs.theory.Lookups.{day_is_lem}

@@ -7,7 +7,7 @@ use Rattle.clock.specs.Answers.{leap_judged}
 use Rattle.series.specs.Acceptance.{Accepted}
 use Rattle.marks.specs.Listed.{listed_marks}
 use Rattle.inputs.specs.Inputs.{Inputs, inputs, sun, moon, any_early, inputs_judged}
-use Rattle.inputs.specs.Theorems.{leap_known}
+use Rattle.inputs.proofs.Theorems.{leap_known}
 use Rattle.inputs.proofs.judge.Goals as goal
 use Rattle.inputs.proofs.judge.Goals.{In_default-moon_check}
 

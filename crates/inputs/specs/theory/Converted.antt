@@ -16,8 +16,8 @@ use Rattle.marks.specs.Marks.{Mark}
 use Rattle.marks.specs.Crossings.{marked}
 use Rattle.marks.specs.Answers.{no_mark}
 use Rattle.marks.specs.Listed.{listed_marks, first_reached, last_reached, second_of_mark}
-use Rattle.marks.specs.Theorems.{located_crossing}
-use Rattle.marks.specs.theory.Nth.{nth_index, nth_is, index_low, index_high, marks_length, indices_ordered}
+use Rattle.marks.proofs.Theorems.{located_crossing}
+use Rattle.marks.proofs.theory.Nth.{nth_index, nth_is, index_low, index_high, marks_length, indices_ordered}
 use Rattle.inputs.specs.Inputs.{second}
 use Rattle.inputs.specs.Known.{Ready}
 use Rattle.inputs.specs.theory.Early.{each_not_early}

@@ -8,7 +8,7 @@ use Rattle.series.specs.Acceptance.{Accepted}
 use Rattle.marks.specs.Marks.{Mark}
 use Rattle.marks.specs.Answers.{no_mark}
 use Rattle.marks.specs.Listed.{listed_marks, second_of_mark}
-use Rattle.marks.specs.theory.Nth.{nth_index, nth_is, nth_in_span, nth_later}
+use Rattle.marks.proofs.theory.Nth.{nth_index, nth_is, nth_in_span, nth_later}
 use Rattle.inputs.specs.Inputs.{second, any_early}
 use Rattle.inputs.specs.theory.Early.{none_is_early, first_is_early}
 use Rattle.inputs.specs.theory.Converted.{span_converts}

@@ -7,15 +7,15 @@ use Rattle.whole.specs.Ranges.{Within}
 use Rattle.refusals.specs.Verdict.{answered, accepted, paper_check, refused_first, accepted_is, ◌then◌}
 use Rattle.inputs.specs.Inputs.{Inputs, inputs, judged_in}
 use Rattle.inputs.specs.Known.{Known}
-use Rattle.inputs.specs.Theorems.{known, accepted_in}
+use Rattle.inputs.proofs.Theorems.{known, accepted_in}
 use Rattle.months.specs.Months.{sui_of}
 use Rattle.months.specs.Answers.{days_answer, sui_answer}
 use Rattle.months.proofs.theory.Answered.{days_answered, days_refused}
 use Rattle.months.proofs.theory.Days.{found_small}
 use Rattle.months.proofs.theory.Kept.{year_small}
 use Rattle.sui.specs.Sui.{new_moon_days, zhongqi_days, sui_days, sui_for}
-use Rattle.sui.specs.Theorems.{sui_days_of_accepted}
-use Rattle.sui.specs.theory.Answered.{sui_refused, sui_found, Found, days_found_lem, new_moons_small}
+use Rattle.sui.proofs.Theorems.{sui_days_of_accepted}
+use Rattle.sui.proofs.theory.Answered.{sui_refused, sui_found, Found, days_found_lem, new_moons_small}
 use Rattle.one_sui.proofs.sui.Goals as goal
 use Rattle.one_sui.proofs.sui.Goals.{After-days_in-found, After-judge_in-check, In_default, In_default-judged, Start}
 

@@ -10,7 +10,7 @@ use Rattle.clock.specs.Clock.{is_zone}
 use Rattle.clock.specs.Answers.{zone_judged}
 use Rattle.clock.proofs.theory.Judged.{zone_is_small}
 use Rattle.inputs.specs.Inputs.{inputs}
-use Rattle.inputs.specs.Theorems.{known}
+use Rattle.inputs.proofs.Theorems.{known}
 use Rattle.almanac.specs.Layout.{file_of}
 use Rattle.rebuild.specs.declared.old.FileYears.{FileYears}
 use Rattle.rebuilt.specs.Rebuild.{Years, rebuilt, years_in}

@@ -9,7 +9,7 @@ use Rattle.months.specs.Months.{by_first, month_count, days_found, days_of}
 use Rattle.months.proofs.theory.Days.{found_listed, found_count, found_is}
 use Rattle.months.proofs.theory.Listed.{at_most_thirteen}
 use Rattle.sui.specs.Sui.{new_moon_days, zhongqi_days, sui_days}
-use Rattle.sui.specs.theory.Answered.{days_found_lem}
+use Rattle.sui.proofs.theory.Answered.{days_found_lem}
 use Rattle.rebuilt.specs.Rebuild.{days_words, same_days, is_kept}
 use Rattle.alike.specs.Alike.{words_are, words_alike}
 

@@ -14,7 +14,7 @@ use Rattle.clock.specs.Answers.{zone_judged}
 use Rattle.inputs.specs.Inputs.{Inputs}
 use Rattle.layout.specs.declared.inner.Places.{Places}
 use Rattle.layout.specs.Layout.{places, words_from, inputs_at}
-use Rattle.layout.specs.theory.Sections.{places_inside}
+use Rattle.layout.proofs.theory.Sections.{places_inside}
 use Rattle.building.specs.Building.{all_taken}
 use Rattle.building.specs.theory.Cases.{bounded}
 use Rattle.rebuilt.specs.declared.Rebuilt.{Rebuilt}

@@ -7,7 +7,7 @@ use Rattle.series.specs.Series.{Series, series, covers}
 use Rattle.series.specs.Acceptance.{Accepted}
 use Rattle.series.proofs.theory.Span.{covers_says, span_short, distance_in_span}
 use Rattle.served.specs.Served.{near, long, serves}
-use Rattle.served.specs.theory.Cases.{near_serves, long_serves, none_serves}
+use Rattle.served.proofs.theory.Cases.{near_serves, long_serves, none_serves}
 use Rattle.serving.proofs.serves.Goals as goal
 
 -- a series that covers a second has it at a short distance from its start

@@ -1,7 +1,7 @@
 -- `serving::serving_part` meets its contract. Assumes nothing.
 use Rattle.std.proofs.Common.{sym}
 use Rattle.series.specs.Series.{series}
-use Rattle.served.specs.Theorems.{segment_there}
+use Rattle.served.proofs.Theorems.{segment_there}
 use Rattle.serving.proofs.serving_part.Goals as goal
 
 pub segment_of-requires : goal.segment_of-requires

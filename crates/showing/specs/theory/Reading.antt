@@ -8,7 +8,7 @@ use Rattle.refusals.specs.Verdict.{Verdict, answered, refused, refuse_when, answ
 use Rattle.refusals.specs.Lent.{written_into}
 use Rattle.clock.proofs.theory.Table.{few}
 use Rattle.almanac.specs.declared.Counts.{Counts}
-use Rattle.content.specs.Content.{Content, month_count, month_words_lem}
+use Rattle.content.specs.Content.{Content, month_count, month_words}
 use Rattle.almanac.specs.Layout.{file_of}
 use Rattle.almanac.specs.Answers.{counts_in, too_short, content_read, read_file}
 use Rattle.almanac.specs.Theorems.{read_is_lawful}
@@ -47,11 +47,11 @@ module _ (file : List ℕ) where
     pub few_months : n.months ≤ 1664
     pub first_days : Dated content.months (month_count content)
 
-  pub shows : {a b d : ℕ} → 128 ≡ a → 256 ≡ b → 4992 ≡ d → (n : Counts) (words last : List ℤ) → answered n ≡ read_file file a b d → last ≡ written_into (content_read file a b d) month_words_lem words → Shows n last
+  pub shows : {a b d : ℕ} → 128 ≡ a → 256 ≡ b → 4992 ≡ d → (n : Counts) (words last : List ℤ) → answered n ≡ read_file file a b d → last ≡ written_into (content_read file a b d) month_words words → Shows n last
   unfolding read_file
   shows ea eb ed n words last answer held = go (file_of file) refl (rw (← ea, ← eb, ← ed, all_fit) at answer) (rw (← ea, ← eb, ← ed, all_fit) at held)
     where
-      go : (v : Verdict Content) → file_of file ≡ v → answered n ≡ (v then (λ c. answered (counts_in c))) → last ≡ written_into v month_words_lem words → Shows n last
+      go : (v : Verdict Content) → file_of file ≡ v → answered n ≡ (v then (λ c. answered (counts_in c))) → last ≡ written_into v month_words words → Shows n last
       go (answered c) e p q =
           let r = rules c (read_is_lawful file c e) in
           let same : n.months ≡ month_count c = ap (λ (m : Counts). m.months) (answers_apart p) in

@@ -17,7 +17,8 @@ use Rattle.months.proofs.theory.Days.{days_missing}
 use Rattle.turns.specs.theory.Counting.{by_small}
 use Rattle.turns.specs.Listed.{turn_index_of, turn_day, turn_days, turns_by, turns_of}
 use Rattle.sui.specs.Sui.{sui_days, sui_of_year}
-use Rattle.sui.specs.theory.Found.{one_in_each, zhongqi_from, sui_days_are, out_of_range, missing_when, found_when}
+use Rattle.sui.specs.theory.Found.{one_in_each, zhongqi_from}
+use Rattle.sui.proofs.theory.Found.{sui_days_are, out_of_range, missing_when, found_when}
 use Rattle.sui.specs.theory.Solstices.{eve}
 use Rattle.suis.specs.declared.inner.Places.{Places}
 use Rattle.suis.specs.Ahead.{begun, solstices_before, new_moons_by}

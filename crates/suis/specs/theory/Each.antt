@@ -9,8 +9,10 @@ use Rattle.marks.specs.Listed.{last_reached}
 use Rattle.inputs.specs.Inputs.{day_of_mark}
 use Rattle.inputs.specs.Known.{Ready}
 use Rattle.turns.specs.Listed.{turn_index_of, turn_day, turns_by, turns_of}
-use Rattle.sui.specs.theory.Found.{one_in_each, two_listed, to_the_second}
-use Rattle.sui.specs.theory.Solstices.{eve, one_circle_on}
+use Rattle.sui.specs.theory.Found.{one_in_each}
+use Rattle.sui.proofs.theory.Found.{two_listed, to_the_second}
+use Rattle.sui.specs.theory.Solstices.{eve}
+use Rattle.sui.proofs.theory.Solstices.{one_circle_on}
 use Rattle.suis.specs.Ahead.{Ahead, one_more}
 use Rattle.suis.specs.theory.Lookups.{day_is_lem, one_more_is}
 

@@ -16,9 +16,11 @@ use Rattle.months.proofs.theory.Days.{found_months, found_listed, found_count}
 use Rattle.months.proofs.theory.Suis.{sui_count_lem}
 use Rattle.turns.specs.Listed.{turn_index_of, turn_day, turn_days, turns_by, turns_of, turn_days_rise}
 use Rattle.sui.specs.Sui.{sui_days, sui_of_year}
-use Rattle.sui.specs.theory.Answered.{days_found_lem}
-use Rattle.sui.specs.theory.Found.{one_in_each, first_solstice_of, zhongqi_from, sui_days_are, two_listed}
-use Rattle.sui.specs.theory.Solstices.{eve, one_circle_on}
+use Rattle.sui.proofs.theory.Answered.{days_found_lem}
+use Rattle.sui.specs.theory.Found.{one_in_each, zhongqi_from}
+use Rattle.sui.proofs.theory.Found.{first_solstice_of, sui_days_are, two_listed}
+use Rattle.sui.specs.theory.Solstices.{eve}
+use Rattle.sui.proofs.theory.Solstices.{one_circle_on}
 
 -- ---- the solstices' days among the zhongqi
 module _ (leap : List ℤ) (s : Series) (zone j : ℤ) where

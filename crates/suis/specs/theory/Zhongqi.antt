@@ -17,7 +17,7 @@ use Rattle.marks.specs.Listed.{last_reached}
 use Rattle.inputs.specs.Inputs.{day_of_mark}
 use Rattle.turns.specs.Listed.{turn_index_of, turn_day, turns_of, turn_by_last}
 use Rattle.sui.specs.theory.Found.{zhongqi_from}
-use Rattle.sui.specs.theory.Solstices.{one_circle_on}
+use Rattle.sui.proofs.theory.Solstices.{one_circle_on}
 use Rattle.suis.specs.Ahead.{Ahead, zhongqi_of}
 use Rattle.suis.specs.theory.Lookups.{day_is_lem, Fewer}
 

@@ -8,7 +8,7 @@ use Rattle.refusals.specs.Verdict.{answered, paper_check, accepted_is}
 use Rattle.series.specs.Series.{Series, series}
 use Rattle.series.specs.Acceptance.{Accepted}
 use Rattle.marks.specs.Listed.{listed_marks}
-use Rattle.marks.specs.Theorems.{accepted_is_listed, without_room_is_12, refused_is_not_listed}
+use Rattle.marks.proofs.Theorems.{accepted_is_listed, without_room_is_12, refused_is_not_listed}
 use Rattle.walk.proofs.list_marks.Goals as goal
 use Rattle.walk.proofs.list_marks.Goals.{Else-out-marks, In_default, Start}
 

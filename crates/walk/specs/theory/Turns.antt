@@ -14,8 +14,8 @@ use Rattle.marks.specs.Marks.{Mark}
 use Rattle.marks.specs.Crossings.{marked}
 use Rattle.marks.specs.Listed.{marks_between, listed_marks, reached_at}
 use Rattle.marks.specs.Words.{mark_words}
-use Rattle.marks.specs.theory.StretchLaws.{few}
-use Rattle.marks.specs.theory.Words.{words_length}
+use Rattle.marks.proofs.theory.StretchLaws.{few}
+use Rattle.marks.proofs.theory.Words.{words_length}
 use Rattle.walk.specs.Visits.{next_listed, next_not_listed, over}
 
 -- where the walk stands: at a second of the span, knowing how many marks are reached there

@@ -1,7 +1,7 @@
 -- `building::refused::in_rest` meets its contract. Assumes nothing.
 use mathlib.Core.Path.{sym, ap, ◌∙◌}
 use Rattle.layout.specs.Layout.{paper_places}
-use Rattle.layout.specs.theory.Sections.{places_inside}
+use Rattle.layout.proofs.theory.Sections.{places_inside}
 use Rattle.building.specs.theory.Blamed.{rest_broken, rest_found}
 use borrow.Author.Rules.{rules}
 use Rattle.building.proofs.refused.in_rest.Goals as goal

@@ -3,7 +3,7 @@ use mathlib.Core.Path.{sym, ap, ◌∙◌}
 use lib.ListN.{length}
 use mir.Facts.{to_z-of_z}
 use Rattle.layout.specs.Layout.{paper_places}
-use Rattle.layout.specs.theory.Sections.{places_inside}
+use Rattle.layout.proofs.theory.Sections.{places_inside}
 use Rattle.building.specs.theory.Cases.{refusing, passing_on, rest_broken, rest_found}
 use Rattle.building.proofs.sections.build_rest.Goals as goal
 

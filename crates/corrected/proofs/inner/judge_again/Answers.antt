@@ -6,7 +6,7 @@ use Rattle.clock.specs.Answers.{leap_judged}
 use Rattle.series.specs.Acceptance.{Accepted}
 use Rattle.marks.specs.Listed.{listed_marks}
 use Rattle.inputs.specs.Inputs.{Inputs, inputs, sun, moon, any_early, inputs_judged}
-use Rattle.inputs.specs.Theorems.{leap_known}
+use Rattle.inputs.proofs.Theorems.{leap_known}
 use Rattle.corrected.proofs.inner.judge_again.Goals as goal
 use Rattle.corrected.proofs.inner.judge_again.Goals.{In_default-moon_check}
 

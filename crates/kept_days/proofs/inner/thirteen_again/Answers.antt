@@ -14,7 +14,7 @@ use Rattle.series.specs.Series.{Series, series}
 use Rattle.turns.specs.declared.inner.TurnList.{TurnList}
 use Rattle.turns.specs.Listed.{turn_index_of, turn_after, turns_of}
 use Rattle.turns.specs.Searched.{turn_fits, circles_small, count_is, count_small}
-use Rattle.sui.specs.theory.Solstices.{one_circle_on}
+use Rattle.sui.proofs.theory.Solstices.{one_circle_on}
 use Rattle.kept_days.specs.KeptDays.{outside}
 use Rattle.suis.specs.theory.Zhongqi.{first_known, last_known, last_listed, both_turns}
 use Rattle.kept_days.proofs.inner.thirteen_again.Goals as goal

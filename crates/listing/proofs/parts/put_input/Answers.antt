@@ -3,7 +3,7 @@ use mathlib.Core.Path.{sym, ap}
 use mir.Facts.{to_z-of_z}
 use Rattle.refusals.specs.Verdict.{answered, accepted_is, refused_first, accepted_first}
 use Rattle.inputs.specs.Inputs.{Inputs, inputs}
-use Rattle.inputs.specs.Theorems.{known}
+use Rattle.inputs.proofs.Theorems.{known}
 use Rattle.listed.specs.Listing.{lines_of, listed, printed}
 use Rattle.listing.proofs.parts.put_input.Goals as goal
 use Rattle.listing.proofs.parts.put_input.Goals.{Start}

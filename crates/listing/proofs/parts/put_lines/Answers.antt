@@ -10,7 +10,7 @@ use native.Mathlib.Omega.{arith}
 use Rattle.whole.specs.Ranges.{back}
 use Rattle.text.specs.Text.{line_length, line_length_lem}
 use Rattle.marks.specs.Listed.{first_reached}
-use Rattle.marks.specs.theory.Nth.{marks_few}
+use Rattle.marks.proofs.theory.Nth.{marks_few}
 use Rattle.inputs.specs.Inputs.{Inputs, inputs, sun, moon}
 use Rattle.listing.specs.declared.lines.Line.{Line}
 use Rattle.listing.specs.Lines.{line_text}

@@ -2,7 +2,7 @@
 use mathlib.Core.Path.{sym, ap, ◌∙◌}
 use mir.Facts.{to_z-of_z}
 use Rattle.layout.specs.Layout.{inputs_at, paper_places}
-use Rattle.layout.specs.theory.Sections.{places_inside}
+use Rattle.layout.proofs.theory.Sections.{places_inside}
 use Rattle.listed.specs.Listing.{listed, listed_words, printed}
 use Rattle.refusals.specs.Verdict.{refused_then, answered_then}
 use Rattle.listing.proofs.parts.put_words.Goals as goal

@@ -17,8 +17,8 @@ use Rattle.series.specs.Series.{Series, series, InSpan, value_at, last_second}
 use Rattle.series.proofs.Theorems.{accepted_rises}
 use Rattle.series.proofs.theory.Span.{span_ordered, value_in_span}
 use Rattle.marks.specs.Listed.{MarkAt, second_of_mark}
-use Rattle.marks.specs.Theorems.{located_crossing}
-use Rattle.marks.specs.theory.Slope.{mark_ahead, mark_behind}
+use Rattle.marks.proofs.Theorems.{located_crossing}
+use Rattle.marks.proofs.theory.Slope.{mark_ahead, mark_behind}
 use Rattle.locator.proofs.Bracket.{whole_span}
 use Rattle.locator.proofs.Around.{second_small, mark_small}
 use Rattle.locator.proofs.inner.enclose.Goals as goal

@@ -9,7 +9,7 @@ use Rattle.whole.specs.Ranges.{back}
 use Rattle.series.specs.Series.{Series, series}
 use Rattle.marks.specs.Crossings.{marked}
 use Rattle.marks.specs.Listed.{first_reached}
-use Rattle.marks.specs.theory.Nth.{marks_few, nth_index, index_low, index_high, next_fits, index_fits, nth_is}
+use Rattle.marks.proofs.theory.Nth.{marks_few, nth_index, index_low, index_high, next_fits, index_fits, nth_is}
 use Rattle.locator.proofs.inner.nth_after.Goals as goal
 use Rattle.locator.proofs.inner.nth_after.Goals.{After-add-index, After-add-next, After-signed, Start}
 

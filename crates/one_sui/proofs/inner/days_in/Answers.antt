@@ -19,7 +19,8 @@ use Rattle.refusals.specs.Verdict.{answered_then, refused_then}
 use Rattle.turns.specs.declared.inner.TurnList.{TurnList}
 use Rattle.turns.specs.Listed.{turn_index_of, turn_after, turn_days, turns_by}
 use Rattle.sui.specs.theory.Solstices.{eve}
-use Rattle.sui.specs.theory.Found.{one_in_each, zhongqi_from, found_when, missing_when, out_of_range, sui_days_are, two_listed, to_the_second}
+use Rattle.sui.specs.theory.Found.{one_in_each, zhongqi_from}
+use Rattle.sui.proofs.theory.Found.{found_when, missing_when, out_of_range, sui_days_are, two_listed, to_the_second}
 use Rattle.turns.specs.Searched.{Searched, turn_fits, circles_small}
 use Rattle.one_sui.proofs.inner.days_in.Goals as goal
 use Rattle.one_sui.proofs.inner.days_in.Goals.{After-in_range, After-one_in_each, After-subtract, After-turn_index-index, After-turns_by-before, After-turns_of-turns, Else-not-in_range, Else-not-one_in_each, Start}

@@ -6,7 +6,7 @@ use mir.Val.{of_z, to_z}
 use mir.Facts.{to_z-of_z}
 use Rattle.whole.specs.Ranges.{Within, fits_of, back}
 use Rattle.dates.specs.Calendar.{new_year}
-use Rattle.sui.specs.theory.Eves.{january_valid, january_number, eve_fits}
+use Rattle.sui.proofs.theory.Eves.{january_valid, january_number, eve_fits}
 use Rattle.one_sui.proofs.inner.eve.Goals as goal
 use Rattle.one_sui.proofs.inner.eve.Lts as lts
 use Rattle.one_sui.proofs.inner.eve.Reads as reads

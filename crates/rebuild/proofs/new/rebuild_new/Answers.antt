@@ -5,7 +5,7 @@ use mir.Facts.{to_z-of_z}
 use Rattle.refusals.specs.Verdict.{accepted, accepted_is, paper_check}
 use Rattle.inputs.specs.Inputs.{inputs, sun, moon, inputs_judged}
 use Rattle.inputs.specs.Known.{Known}
-use Rattle.inputs.specs.Theorems.{known}
+use Rattle.inputs.proofs.Theorems.{known}
 use Rattle.suis.specs.Ahead.{paper_begin, begun}
 use Rattle.suis.specs.theory.Begun.{begun_answered, begun_refused}
 use Rattle.built.specs.Build.{bytes_of_years}

@@ -14,7 +14,8 @@ use Rattle.months.specs.Months.{days_of}
 use Rattle.months.specs.Answers.{days_answer}
 use Rattle.months.proofs.theory.Kept.{year_small}
 use Rattle.turns.specs.Listed.{turn_index_of, turn_days, turns_of}
-use Rattle.sui.specs.theory.Found.{one_in_each, zhongqi_from, found_when, missing_when, out_of_range, sui_days_are}
+use Rattle.sui.specs.theory.Found.{one_in_each, zhongqi_from}
+use Rattle.sui.proofs.theory.Found.{found_when, missing_when, out_of_range, sui_days_are}
 use Rattle.suis.specs.theory.Each.{each_is, both_listed}
 use Rattle.suis.specs.theory.Next.{first_is_turn, solstices_in_order}
 use Rattle.suis.proofs.finding.days_from.Goals as goal

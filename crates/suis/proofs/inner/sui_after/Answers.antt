@@ -9,8 +9,8 @@ use Rattle.months.proofs.theory.Answered.{days_answered, days_refused}
 use Rattle.months.proofs.theory.Kept.{year_small}
 use Rattle.months.proofs.theory.Days.{found_small}
 use Rattle.sui.specs.Sui.{new_moon_days, zhongqi_days, sui_days}
-use Rattle.sui.specs.Theorems.{sui_days_of_accepted}
-use Rattle.sui.specs.theory.Answered.{Found, days_found_lem, new_moons_small}
+use Rattle.sui.proofs.Theorems.{sui_days_of_accepted}
+use Rattle.sui.proofs.theory.Answered.{Found, days_found_lem, new_moons_small}
 use Rattle.suis.proofs.inner.sui_after.Goals as goal
 use Rattle.suis.proofs.inner.sui_after.Goals.{In_default, Start}
 

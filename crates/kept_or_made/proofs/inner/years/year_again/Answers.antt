@@ -11,8 +11,8 @@ use Rattle.months.proofs.theory.Kept.{year_small}
 use Rattle.months.proofs.theory.Days.{found_small}
 use Rattle.months.proofs.theory.Listed.{at_most_thirteen}
 use Rattle.sui.specs.Sui.{new_moon_days, zhongqi_days, sui_days}
-use Rattle.sui.specs.Theorems.{sui_days_of_accepted}
-use Rattle.sui.specs.theory.Answered.{Found, days_found_lem, new_moons_small}
+use Rattle.sui.proofs.Theorems.{sui_days_of_accepted}
+use Rattle.sui.proofs.theory.Answered.{Found, days_found_lem, new_moons_small}
 use Rattle.rebuilt.specs.Rebuild.{days_words}
 use Rattle.kept_or_made.specs.Again.{paper_put}
 use Rattle.kept_or_made.specs.theory.Putting.{no_days_lem, no_sui_lem, sui_put}

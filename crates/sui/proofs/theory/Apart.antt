@@ -19,7 +19,7 @@ use Rattle.series.specs.declared.Body.TheVariants.{Moon}
 use Rattle.series.specs.Series.{Series, series, value_at, last_second}
 use Rattle.series.specs.Acceptance.{Accepted}
 use Rattle.marks.specs.Listed.{first_reached, second_of_mark}
-use Rattle.marks.specs.Theorems.{located_crossing, later_marks_are_later}
+use Rattle.marks.proofs.Theorems.{located_crossing, later_marks_are_later}
 use Rattle.inputs.specs.Inputs.{Inputs, moon, day_of_mark}
 use Rattle.inputs.specs.Known.{Known}
 use Rattle.months.specs.Limits.{rising}
@@ -27,8 +27,8 @@ use Rattle.whole.specs.Selected.{tabulate_cons}
 use Rattle.sui.specs.Sui.{new_moon_days}
 use Rattle.turns.specs.Turns.{gap}
 use Rattle.turns.specs.Listed.{turn_index_of, turns_of, turn_after, turn_by_last, turn_day}
-use Rattle.sui.specs.theory.Solstices.{new_moons_are}
-use Rattle.sui.specs.theory.Speed.{rises_at_most_over}
+use Rattle.sui.proofs.theory.Solstices.{new_moons_are}
+use Rattle.sui.proofs.theory.Speed.{rises_at_most_over}
 
 -- ---- a day ends in 129,600 seconds: offsets are small
 pub day_ends : (leap : List ℤ) → leap_lawful leap ≡ true → (a b : Second) → a.0 +ℤ pos 129600 ⩽ b.0 → (zone : ℤ) → (day_in leap a zone).0 <ℤ (day_in leap b zone).0

@@ -15,12 +15,12 @@ use Rattle.marks.specs.Listed.{marks_between, listed_marks, reached_at, first_re
 use Rattle.marks.specs.Words.{mark_words}
 use Rattle.refusals.specs.Lent.{written_into}
 use Rattle.marks.specs.Answers.{listed_into, words_listed, Answered}
-use Rattle.marks.specs.theory.Words.{words_length}
-use Rattle.marks.specs.theory.Answered.{answered_means}
-use Rattle.marks.specs.theory.StretchLaws.{joined, none, neighbours}
-use Rattle.marks.specs.theory.Crossings.{listed_exactly, listed_in_time_order, one_second, one_index}
-use Rattle.marks.specs.theory.Located.{located, located_only, seconds_rise, listed_located}
-use Rattle.marks.specs.theory.ExactSum.{exact_before, exact_after, exact_crossing_listed}
+use Rattle.marks.proofs.theory.Words.{words_length}
+use Rattle.marks.proofs.theory.Answered.{answered_means}
+use Rattle.marks.proofs.theory.StretchLaws.{joined, none, neighbours}
+use Rattle.marks.proofs.theory.Crossings.{listed_exactly, listed_in_time_order, one_second, one_index}
+use Rattle.marks.proofs.theory.Located.{located, located_only, seconds_rise, listed_located}
+use Rattle.marks.proofs.theory.ExactSum.{exact_before, exact_after, exact_crossing_listed}
 
 module _ (s : Series) (e : Accepted s) where
   -- (a) mark j is listed at a second exactly if it is there: every crossing and no other ..

@@ -16,14 +16,14 @@ use Rattle.marks.specs.Marks.{Mark}
 use Rattle.marks.specs.Listed.{second_of_mark}
 use Rattle.inputs.specs.Inputs.{Inputs, moon, judged_in, InputsAccepted, day_of_mark}
 use Rattle.inputs.specs.Known.{Known, Ready}
-use Rattle.inputs.specs.Theorems.{accepted_in}
+use Rattle.inputs.proofs.Theorems.{accepted_in}
 use Rattle.inputs.specs.theory.Converted.{mark_converts}
 use Rattle.months.specs.declared.SuiDays.{SuiDays}
 use Rattle.months.specs.Months.{days_of, sui_of}
 use Rattle.months.specs.Limits.{year_in_range}
 use Rattle.sui.specs.Sui.{new_moon_days, solstices_in, zhongqi_days, one_solstice, sui_days, sui_for, days_by_marks}
 use Rattle.turns.specs.Listed.{turn_index_of, turns_of, turn_after, turn_by_last, turn_day}
-use Rattle.sui.specs.theory.Solstices.{new_moons_are}
+use Rattle.sui.proofs.theory.Solstices.{new_moons_are}
 
 -- ---- the whole from its parts
 module _ (i : Inputs) (zone year : ℤ) (judged : judged_in i zone ≡ accepted) where

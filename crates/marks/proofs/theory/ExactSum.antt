@@ -10,10 +10,10 @@ use Rattle.whole.specs.Distance.{clash, one_before, two_before}
 use Rattle.chebyshev.specs.Segment.{allowance}
 use Rattle.series.specs.Rising.{Rising, Tracking}
 use Rattle.marks.specs.Marks.{index_at, marks, second_of}
-use Rattle.marks.specs.theory.Indices.{not_reached, reaches, index_mono}
+use Rattle.marks.proofs.theory.Indices.{not_reached, reaches, index_mono}
 use Rattle.marks.specs.Crossings.{Crossing, ◌∈◌, marked}
-use Rattle.marks.specs.theory.Crossings.{listed_exactly}
-use Rattle.marks.specs.theory.Located.{located, side}
+use Rattle.marks.proofs.theory.Crossings.{listed_exactly}
+use Rattle.marks.proofs.theory.Located.{located, side}
 
 -- ---- one step, in numbers: v and e at a second, v' and e' at the next, t a mark
 module _ (v v' e e' t divisor : ℤ) (some_divisor : pos 0 <ℤ divisor)

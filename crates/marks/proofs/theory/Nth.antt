@@ -19,9 +19,9 @@ use Rattle.marks.specs.Marks.{index_at}
 use Rattle.marks.specs.Crossings.{marked}
 use Rattle.marks.specs.Listed.{listed_marks, first_reached, last_reached, second_of_mark, MarkAt}
 use Rattle.marks.specs.Answers.{no_mark}
-use Rattle.marks.specs.theory.Indices.{index_mono}
-use Rattle.marks.specs.theory.StretchLaws.{length_is}
-use Rattle.marks.specs.theory.Located.{located, nth_listed, seconds_rise}
+use Rattle.marks.proofs.theory.Indices.{index_mono}
+use Rattle.marks.proofs.theory.StretchLaws.{length_is}
+use Rattle.marks.proofs.theory.Located.{located, nth_listed, seconds_rise}
 
 module _ (s : Series) (e : Accepted s) where
   rising : Rising (value_at s) s.start (last_second s) (numbers s.body).mark_size

@@ -14,7 +14,7 @@ use Rattle.series.proofs.theory.Known.{segment_length_lem}
 use Rattle.series.proofs.theory.Refused.{refused_by_two_to_five}
 use Rattle.series.proofs.theory.Span.{covers_says, says_covers, not_covers_says, says_not_covers, segment_in_span}
 use Rattle.served.specs.Served.{Side, near, long, chosen, Served, served_by, choice, serves, part_served, IsPart}
-use Rattle.served.specs.theory.Cases.{near_serves, long_serves, none_serves}
+use Rattle.served.proofs.theory.Cases.{near_serves, long_serves, none_serves}
 
 -- ---- the statements
 -- near serves where it covers the second; long where it does, and near does not

@@ -16,10 +16,10 @@ use Rattle.whole.specs.Distance.{distance_from, clash, next, back_one, one_befor
 use Rattle.whole.specs.Solver.{le_yes, le_no}
 use Rattle.series.specs.Rising.{Rising}
 use Rattle.marks.specs.Marks.{Mark, index_at, mark_at, marks_after, marks, second_after, second_of}
-use Rattle.marks.specs.theory.Indices.{reached, reaches, ahead, not_reached, index_rises, index_rises_by_one, index_mono}
-use Rattle.marks.specs.theory.StretchLaws.{lists_none, lists_one, length_is}
+use Rattle.marks.proofs.theory.Indices.{reached, reaches, ahead, not_reached, index_rises, index_rises_by_one, index_mono}
+use Rattle.marks.proofs.theory.StretchLaws.{lists_none, lists_one, length_is}
 use Rattle.marks.specs.Crossings.{Crossing, ◌∈◌, marked, numbered}
-use Rattle.marks.specs.theory.Crossings.{sooner, listed_exactly, one_second}
+use Rattle.marks.proofs.theory.Crossings.{sooner, listed_exactly, one_second}
 
 numbered_nth : (at : ℤ → ℤ) (j : ℤ) (n k : ℕ) (other : Mark) → k < n → get_or (numbered at j n) k other ≡ marked (j +ℤ pos k) (at (j +ℤ pos k))
 unfolding numbered

@@ -7,7 +7,7 @@ use Rattle.series.specs.Acceptance.{series_judged}
 use Rattle.marks.specs.Listed.{listed_marks}
 use Rattle.marks.specs.Words.{mark_words}
 use Rattle.marks.specs.Answers.{listed_into, Answered}
-use Rattle.marks.specs.theory.Words.{words_length}
+use Rattle.marks.proofs.theory.Words.{words_length}
 
 told : (judgement : Verdict (Unit {0})) (room filled count n : ℕ) → filled ≡ 2 * count → judgement before refuse_when (ltb room filled) 12 before answered count ≡ answered n → (judgement ≡ accepted) × ((n ≡ count) × (2 * n ≤ room))
 told (answered tt) room filled count n two e = go (ltb room filled) (ltb-false room filled) e

@@ -18,8 +18,8 @@ use Rattle.series.specs.Examples.{three, sun_segment, sun, moon, joined, alone}
 use Rattle.marks.specs.Marks.{index_at, mark_at}
 use Rattle.marks.specs.Listed.{listed_marks, reached_at, first_reached, last_reached}
 use Rattle.marks.specs.Answers.{counted_marks, listed_into}
-use Rattle.marks.specs.theory.Words.{words_length}
-use Rattle.marks.specs.theory.Nth.{marks_length}
+use Rattle.marks.proofs.theory.Words.{words_length}
+use Rattle.marks.proofs.theory.Nth.{marks_length}
 
 -- how many marks a second of a series lists
 abbrev listed_at : Series → ℤ → ℕ

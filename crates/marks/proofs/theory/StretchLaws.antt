@@ -13,7 +13,7 @@ use Rattle.whole.specs.Distance.{distance_from, next, back_one, lies_after, dist
 use Rattle.whole.specs.Solver.{yes_lt, no_lt}
 use Rattle.series.specs.Rising.{Rising}
 use Rattle.marks.specs.Marks.{Mark, index_at, mark_at, marks_after, marks}
-use Rattle.marks.specs.theory.Indices.{index_rises, index_rises_by_one, index_mono}
+use Rattle.marks.proofs.theory.Indices.{index_rises, index_rises_by_one, index_mono}
 
 -- ---- two stretches that share a second
 join_after : (v : ℤ → ℤ) (size : ℕ) (n m : ℕ) (a b : ℤ) → b ≡ a +ℤ pos n → marks_after v size a n ++ marks_after v size b m ≡ marks_after v size a (n + m)

@@ -11,7 +11,7 @@ use Rattle.refusals.specs.Verdict.{answered, ◌then◌, then_answered, one_cont
 use Rattle.marks.specs.Marks.{Mark}
 use Rattle.inputs.specs.Inputs.{Inputs, sun, day_of_mark}
 use Rattle.inputs.specs.Known.{Known}
-use Rattle.inputs.specs.Theorems.{known}
+use Rattle.inputs.proofs.Theorems.{known}
 use Rattle.months.specs.declared.SuiDays.{SuiDays}
 use Rattle.months.specs.declared.Sui.{Sui}
 use Rattle.months.specs.declared.SuiAnswer.{SuiAnswer}
@@ -21,11 +21,12 @@ use Rattle.months.specs.Answers.{sui_answer}
 use Rattle.months.proofs.Theorems.{Meet, months_meet, found_are_sui_days}
 use Rattle.months.proofs.theory.Suis.{IsSui}
 use Rattle.sui.specs.Sui.{new_moon_days, solstices_in, zhongqi_days, one_solstice, sui_days, sui_for}
-use Rattle.sui.specs.theory.Answered.{days_found_lem, inputs_answered}
+use Rattle.sui.proofs.theory.Answered.{days_found_lem, inputs_answered}
 use Rattle.turns.specs.theory.Counting.{by_small}
-use Rattle.sui.specs.theory.Solstices.{eve, solstice, solstices, solstice_day, solstices_by, one_circle_on, in_year_means, zhongqi_are}
-use Rattle.sui.specs.theory.Found.{this}
-use Rattle.sui.specs.theory.Apart.{new_moons_rise}
+use Rattle.sui.specs.theory.Solstices.{eve}
+use Rattle.sui.proofs.theory.Solstices.{solstice, solstices, solstice_day, solstices_by, one_circle_on, in_year_means, zhongqi_are}
+use Rattle.sui.proofs.theory.Found.{this}
+use Rattle.sui.proofs.theory.Apart.{new_moons_rise}
 
 -- ---- the solstices of a sui
 module _ (i : Inputs) (zone : ℤ) (k : Known i) (year : ℤ) {first last : Mark} (one : one_solstice (solstices_in i zone (year -ℤ pos 1)) ≡ answered first) (two : one_solstice (solstices_in i zone year) ≡ answered last) where

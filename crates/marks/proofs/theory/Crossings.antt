@@ -15,8 +15,8 @@ use Rattle.whole.specs.Solver.{lt_yes}
 use Rattle.series.specs.Rising.{Rising}
 use Rattle.marks.specs.Marks.{Mark, index_at, mark_at, marks_after, marks}
 use Rattle.marks.specs.Crossings.{Crossing, marked, ◌∈◌, InTimeOrder}
-use Rattle.marks.specs.theory.Indices.{reached, reaches, ahead, not_reached, index_rises_by_one, index_mono}
-use Rattle.marks.specs.theory.StretchLaws.{lists_none, lists_one}
+use Rattle.marks.proofs.theory.Indices.{reached, reaches, ahead, not_reached, index_rises_by_one, index_mono}
+use Rattle.marks.proofs.theory.StretchLaws.{lists_none, lists_one}
 
 -- ---- how it is shown
 

@@ -15,7 +15,7 @@ use Rattle.clock.proofs.Theorems.{days_never_go_back}
 use Rattle.clock.proofs.theory.Judged.{zone_known}
 use Rattle.series.specs.Series.{Series}
 use Rattle.marks.specs.Listed.{listed_marks, first_reached, last_reached, second_of_mark}
-use Rattle.marks.specs.Theorems.{later_marks_are_later}
+use Rattle.marks.proofs.Theorems.{later_marks_are_later}
 use Rattle.inputs.specs.Inputs.{Inputs, sun, moon, any_early, inputs_judged, judged_in, InputsAccepted, day_of_mark}
 use Rattle.inputs.specs.Known.{Ready, Known}
 

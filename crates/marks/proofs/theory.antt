@@ -1,0 +1,9 @@
+pub mod Answered
+pub mod Crossings
+pub mod ExactSum
+pub mod Indices
+pub mod Located
+pub mod Nth
+pub mod Slope
+pub mod StretchLaws
+pub mod Words

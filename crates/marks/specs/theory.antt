@@ -1,9 +1,0 @@
-pub mod Indices
-pub mod StretchLaws
-pub mod Crossings
-pub mod Located
-pub mod ExactSum
-pub mod Words
-pub mod Answered
-pub mod Nth
-pub mod Slope
