@@ -11,7 +11,7 @@ use lib.Signed.{lt_z}
 use Rattle.whole.specs.Ranges.{Within}
 use Rattle.chebyshev.specs.Polynomials.{S}
 use Rattle.chebyshev.specs.Segment.{value, slope, InRange}
-use Rattle.analysis.specs.Theorems.{value_bound, in_range_exactly}
+use Rattle.analysis.proofs.Theorems.{value_bound, in_range_exactly}
 use Rattle.refusals.specs.Verdict.{refused, accepted}
 use Rattle.refusals.specs.Search.{first_bad, first_bad_good, first_bad_bad, first_bad_end}
 use Rattle.series.specs.declared.Body.{Body}

@@ -1,2 +1,1 @@
 pub mod theory
-pub mod Theorems

@@ -1,4 +1,2 @@
 pub mod Records
 pub mod Given
-pub mod Kept
-pub mod Listed

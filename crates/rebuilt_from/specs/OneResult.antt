@@ -4,7 +4,7 @@ use Rattle.refusals.specs.Verdict.{one_result, one_content}
 use Rattle.refusals.specs.Lent.{written_into}
 use Rattle.rebuilt.specs.declared.RebuildAnswer.{RebuildAnswer}
 use Rattle.rebuilt.specs.Rebuild.{paper_rebuilt, counted, new_bytes, kept_years}
-use Rattle.rebuilt.specs.Theorems.{rebuilt_apart}
+use Rattle.rebuilt.proofs.Theorems.{rebuilt_apart}
 use Rattle.rebuilt_from.specs.RebuiltFrom.{rebuilt_from_taken}
 
 module _ (old : List ℕ) (oldws : List ℤ) (oldbytes : ℕ) (ws : List ℤ) (bytes : ℕ) (zone : ℤ) (file : List ℕ) (years : List ℤ) where

@@ -6,7 +6,7 @@ use Rattle.whole.specs.Parts.{◌≺◌}
 use Rattle.whole.specs.Solver.{⇑, ⇓, ring}
 use Rattle.chebyshev.specs.Segment.{divisor, allowance}
 use Rattle.analysis.specs.theory.Between.{abs_below, abs_above}
-use Rattle.analysis.specs.Theorems.{divisor_positive, value_near_exact}
+use Rattle.analysis.proofs.Theorems.{divisor_positive, value_near_exact}
 use Rattle.series.specs.declared.Body.{Body}
 use Rattle.series.specs.Bodies.{numbers, body_laws}
 use Rattle.series.specs.Series.{Series, last_second, InSpan, segment_at, value_at, exact_at}

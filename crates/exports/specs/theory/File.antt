@@ -20,7 +20,7 @@ use Rattle.sui.specs.Sui.{sui_of_year}
 use Rattle.sui.proofs.theory.Answered.{inputs_answered}
 use Rattle.rebuilt.specs.declared.Rebuilt.{Rebuilt}
 use Rattle.rebuilt.specs.Rebuild.{NewFile, years_in, is_file, most_bytes, given_by, new_file_by, rebuilt_by, kept_by, kept, rebuilt, counted}
-use Rattle.rebuilt.specs.Theorems.{rebuilt_is_fresh, given_means, most_bytes_are_enough}
+use Rattle.rebuilt.proofs.Theorems.{rebuilt_is_fresh, given_means, most_bytes_are_enough}
 use Rattle.rebuild.specs.theory.Judging.{years_few}
 use Rattle.answers.specs.Fits.{Fits, none, itself, file_size, rebuilt_size, answer, test, ◌and◌, and_then, with_answer}
 use Rattle.exports.specs.theory.Time.{zone_fits}

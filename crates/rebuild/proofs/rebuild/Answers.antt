@@ -14,7 +14,7 @@ use Rattle.inputs.proofs.Theorems.{known}
 use Rattle.almanac.specs.Layout.{file_of}
 use Rattle.rebuild.specs.declared.old.FileYears.{FileYears}
 use Rattle.rebuilt.specs.Rebuild.{Years, rebuilt, years_in}
-use Rattle.rebuilt.specs.Theorems.{no_zone_is_15}
+use Rattle.rebuilt.proofs.Theorems.{no_zone_is_15}
 use Rattle.rebuild.specs.theory.Judging.{paper_years, years_few}
 use Rattle.rebuild.specs.theory.Over.{says_refused, same_says}
 use Rattle.rebuild.specs.theory.Entry.{not_read, old_not_accepted, old_accepted}

@@ -35,7 +35,7 @@ use Rattle.built.specs.theory.Years.{suis_are}
 use Rattle.rebuilt.specs.Rebuild.{most_bytes, days_words, same_days, is_kept, kept_by, kept}
 use Rattle.kept_or_made.specs.Again.{is_same_as, months_at_place, listed_again, Copies}
 use Rattle.alike.specs.Alike.{words_are, words_alike}
-use Rattle.rebuilt.specs.theory.Kept.{fourteen_moons, same_days_lem}
+use Rattle.rebuilt.proofs.theory.Kept.{fourteen_moons, same_days_lem}
 use Rattle.kept_or_made.specs.OldDays.{AllFound, DaysOf, days_of_years, days_of_lem, words_of, days_long, days_at}
 use Rattle.rebuilt.specs.theory.Records.{words_in_turn, fewer_found, own_words, words_before}
 

@@ -6,7 +6,7 @@ use borrow.Author.Rules.{rules}
 use Rattle.building.specs.theory.Cases.{bounded}
 use Rattle.clock.specs.Clock.{is_zone}
 use Rattle.layout.specs.Layout.{paper_places}
-use Rattle.rebuilt_from.specs.theory.Cases.{found, sections, refusing, passing_on, no_zone, old_broken, new_broken, both_found}
+use Rattle.rebuilt_from.proofs.theory.Cases.{found, sections, refusing, passing_on, no_zone, old_broken, new_broken, both_found}
 use Rattle.rebuilding.proofs.rebuild_taken.Goals as goal
 use Rattle.rebuilding.proofs.rebuild_taken.Lts as lts
 use Rattle.rebuilding.proofs.rebuild_taken.Reads as reads

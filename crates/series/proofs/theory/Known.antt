@@ -8,7 +8,7 @@ use Rattle.whole.specs.Booleans.{neither, none_of}
 use Rattle.whole.specs.Solver.{lt_no, no_lt}
 use Rattle.refusals.specs.Verdict.{accepted, before_accepted, both_accepted, refuse_when_accepted, accepted_when}
 use Rattle.refusals.specs.Search.{first_bad, first_bad_none, none_first_bad}
-use Rattle.analysis.specs.Theorems.{in_range_exactly}
+use Rattle.analysis.proofs.Theorems.{in_range_exactly}
 use Rattle.series.specs.Bodies.{numbers}
 use Rattle.series.specs.Series.{Series, segment, segments}
 use Rattle.series.specs.Acceptance.{series_judged, judged_shape, Accepted, bad_range, slow, rise, bad_joint}

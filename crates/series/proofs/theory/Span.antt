@@ -11,7 +11,7 @@ use Rattle.whole.specs.Booleans.{not_both}
 use Rattle.whole.specs.Tests.{in_range_says, says_in_range}
 use Rattle.whole.specs.Distance.{distance_from, distance_is, between_fits}
 use Rattle.chebyshev.specs.Polynomials.{S}
-use Rattle.analysis.specs.Theorems.{value_bound}
+use Rattle.analysis.proofs.Theorems.{value_bound}
 use Rattle.series.specs.declared.Body.{Body}
 use Rattle.series.specs.Bodies.{numbers, BodyLaws, body_laws}
 use Rattle.series.specs.Series.{Series, segments, segment_length, segment_start, last_second, InSpan, covers, segment_at, place_at, value_at}

@@ -11,7 +11,7 @@ use Rattle.whole.specs.Distance.{distance_from, distance_next}
 use Rattle.whole.proofs.Floor.{div_step, div_wrap}
 use Rattle.chebyshev.specs.Polynomials.{S}
 use Rattle.chebyshev.specs.Segment.{value, exact, divisor}
-use Rattle.analysis.specs.Theorems.{exact_rises, value_rises, value_rises_little}
+use Rattle.analysis.proofs.Theorems.{exact_rises, value_rises, value_rises_little}
 use Rattle.series.specs.Bodies.{numbers, BodyLaws, body_laws}
 use Rattle.series.specs.Series.{Series, segment, segments, segment_length, last_second, InSpan, value_at, exact_at}
 use Rattle.series.specs.Acceptance.{Accepted, rise}

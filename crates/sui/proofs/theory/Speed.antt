@@ -10,7 +10,7 @@ use Rattle.whole.specs.Distance.{distance_from, distance_next, next as one_furth
 use Rattle.whole.proofs.Floor.{div_step, div_wrap}
 use Rattle.chebyshev.specs.Polynomials.{S}
 use Rattle.chebyshev.specs.Segment.{value}
-use Rattle.analysis.specs.Theorems.{value_rises_little}
+use Rattle.analysis.proofs.Theorems.{value_rises_little}
 use Rattle.series.specs.Bodies.{numbers, BodyLaws, body_laws}
 use Rattle.series.specs.Series.{Series, segment, segments, segment_length, last_second, InSpan, value_at}
 use Rattle.series.specs.Acceptance.{Accepted, rise}

@@ -8,7 +8,7 @@ use lib.ListN.{drop, length-drop}
 use lib.Seq.{length-take-le}
 use Rattle.building.specs.Building.{all_taken}
 use Rattle.building.specs.theory.Cases.{bounded}
-use Rattle.rebuilt_from.specs.theory.Cases.{not_taken, too_few, enough}
+use Rattle.rebuilt_from.proofs.theory.Cases.{not_taken, too_few, enough}
 use Rattle.rebuilding.proofs.sections.find_sections.Goals as goal
 use Rattle.rebuilding.proofs.sections.find_sections.Goals.{Else-not-all_taken, Then-not-all_taken}
 

@@ -10,7 +10,7 @@ use mir.Facts.{to_z-of_z}
 use Rattle.inputs.specs.Inputs.{inputs}
 use Rattle.layout.specs.declared.inner.Places.{Places}
 use Rattle.layout.specs.Layout.{words_from, inputs_at}
-use Rattle.rebuilt_from.specs.theory.Cases.{by_inputs}
+use Rattle.rebuilt_from.proofs.theory.Cases.{by_inputs}
 use Rattle.rebuilding.proofs.sections.rebuild_sections.Goals as goal
 use native.Mathlib.Omega.{arith}
 

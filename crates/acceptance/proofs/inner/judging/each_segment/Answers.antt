@@ -12,7 +12,7 @@ use mir.Facts.{to_z-of_z}
 use Rattle.whole.specs.Ranges.{fit_hyp}
 use Rattle.chebyshev.specs.Polynomials.{S}
 use Rattle.chebyshev.specs.Segment.{value, InRange}
-use Rattle.analysis.specs.Theorems.{value_bound}
+use Rattle.analysis.proofs.Theorems.{value_bound}
 use Rattle.series.specs.Series.{segment, segments}
 use Rattle.series.specs.declared.Body.{Body}
 use Rattle.series.specs.Bodies.{numbers}

@@ -10,7 +10,7 @@ use Rattle.whole.specs.Solver.{⇑, ring}
 use Rattle.chebyshev.specs.Polynomials.{S}
 use Rattle.chebyshev.specs.Segment.{value, InRange}
 use Rattle.chebyshev.specs.EndValues.{even_sum, odd_sum, square_sum, first_value, last_value}
-use Rattle.analysis.specs.Theorems as theorems
+use Rattle.analysis.proofs.Theorems as theorems
 use Rattle.series.specs.declared.Body.{Body}
 use Rattle.series.specs.Bodies.{numbers, body_laws}
 use Rattle.series.proofs.theory.Span.{last_within}

@@ -12,7 +12,7 @@ use Rattle.layout.specs.Layout.{places}
 use Rattle.built.specs.Build.{bytes_built}
 use Rattle.building.specs.Building.{built_from_rest, built_from_words, length_kept, built_from}
 use Rattle.rebuilt.specs.Rebuild.{NewFile}
-use Rattle.rebuilt.specs.Theorems.{Fresh, rebuilt_is_fresh}
+use Rattle.rebuilt.proofs.Theorems.{Fresh, rebuilt_is_fresh}
 use Rattle.rebuilt_from.specs.RebuiltFrom.{inputs_of_words, inputs_of, rebuilt_from}
 
 words_taken : (ws : List ℤ) (zone : ℤ) (room : ℕ) → built_from_words ws zone room ≡ (inputs_of_words ws then λ i. bytes_built i zone (get_or ws 0 (pos 0)) (get_or ws 1 (pos 0)) room)
