@@ -1,6 +1,6 @@
 // What the programs that build have in common: rooms for an input and a file, arguments, an input taken piece by piece, and how a refusal is printed.
-ghost use Rattle.std.specs.Prelude.{◌≡◌, ◌≤◌, IfOk, length};
-ghost use Rattle.pieces.specs.Pieces.{TakenNext, Taken};
+ghost use Rattle.std.specs.Prelude.{◌≡◌, ℕ, ◌≤◌, IfErr, IfOk, length};
+ghost use Rattle.pieces.specs.Pieces.{TakenNext, TakenWhole, Taken};
 
 use building::SeriesAnswer;
 pub use outside::{open_argument, print_argument};
@@ -89,11 +89,12 @@ fn piece_room() -> [u8; 65536]
     [0; 65536]
 }
 
-// Takes the next piece that is read, and says how many bytes are taken now: fewer than 65,536 more where the input ends.
+// Takes the next piece that is read, and says how many bytes are taken now: fewer than 65,536 more where the input ends. Where reading fails nothing of it is taken.
 fn take_next<I: Read>(input: &mut I, taken: usize, words: &mut [i64]) -> io::Result<usize>
     requires taken_bound { taken ≤ 2017080 }
     requires words_len { length words.old ≡ 252135 }
-    ensures { IfOk result (λ bytes. TakenNext taken words.old words.new bytes) }
+    ensures next { IfOk result (λ bytes. TakenNext taken words.old words.new bytes) }
+    ensures failed { IfErr result (λ error. words.new ≡ words.old) }
 {
     let mut piece = piece_room();
     let n = outside::read_full(input, &mut piece)?;
@@ -101,10 +102,11 @@ fn take_next<I: Read>(input: &mut I, taken: usize, words: &mut [i64]) -> io::Res
 }
 
 // Takes an input piece by piece until it ends, or until it is too long, and says how many bytes it has then. What was read no contract can say; that it was taken
-// one piece after another, each but the last of whole words, this one does.
+// one piece after another, each but the last of whole words, this one does. Where reading fails, the pieces before were of whole words and are taken.
 pub fn take_all<I: Read>(input: &mut I, words: &mut [i64]) -> io::Result<usize>
     requires { length words.old ≡ 252135 }
-    ensures { IfOk result (λ bytes. Taken words.old words.new bytes) }
+    ensures all { IfOk result (λ bytes. Taken words.old words.new bytes) }
+    ensures failed { IfErr result (λ error. (bytes : ℕ) × TakenWhole words.old words.new bytes) }
 {
     let mut taken = 0;
     while taken <= 2017080 {
