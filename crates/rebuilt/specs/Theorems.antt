@@ -2,7 +2,6 @@
 -- 13 for every other; which years are listed, in rising order; that nothing of the old file is taken but records of those suis; one result. Assumes nothing but what
 -- a statement says itself.
 use Rattle.std.specs.Prelude.{Bool, cond, List, [], ◌++◌, ℕ, zero, suc, ◌+◌, ℤ}
-use Rattle.rebuilt.specs.declared.RebuildAnswer.TheVariants as rebuild-answer
 
 -- ---- "Month records of a sui whose .. days are unchanged are copied from the old file"
 -- the months' words of n suis, sui by sui: the old ones of a sui that is kept, else those that are made

@@ -1,5 +1,5 @@
 -- The cases of `inputs_taken`, by where its sections stand. Assumes nothing.
-use Rattle.std.specs.Prelude.{◌≡◌, Bool, not, List, [], ◌∷◌, ℕ, zero, suc, ◌+◌, ◌-◌, ◌/◌, ◌≤◌, ◌<◌, ltb, ℤ, take, drop}
+use Rattle.std.specs.Prelude.{◌≡◌, Bool, not, List, [], ◌∷◌, ℕ, zero, suc, ◌-◌, ◌/◌, ◌≤◌, ◌<◌, ltb, ℤ, take, drop}
 use Rattle.std.proofs.Math.Path.{refl}
 use Rattle.std.proofs.Common.{sym, ap, ap₂, ◌∙◌, arith, length-append, length-drop, take_all}
 use Rattle.std.proofs.Math.Bool.{true, false}
@@ -13,7 +13,7 @@ use Rattle.clock.specs.Clock.{is_zone}
 use Rattle.clock.specs.Answers.{zone_judged}
 use Rattle.inputs.specs.Inputs.{Inputs}
 use Rattle.layout.specs.declared.inner.Places.{Places}
-use Rattle.layout.specs.Layout.{places, words_from, inputs_at}
+use Rattle.layout.specs.Layout.{places, inputs_at}
 use Rattle.layout.proofs.theory.Sections.{places_inside}
 use Rattle.building.specs.Building.{all_taken}
 use Rattle.building.specs.theory.Cases.{bounded}

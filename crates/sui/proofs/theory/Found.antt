@@ -1,20 +1,19 @@
 -- The days of a sui as the program finds them: by counting solstices up to three eves it gets the index of the first solstice, from that the thirteen zhongqi, and
 -- with their days it counts new moons. That is what the definition says. Assumes nothing.
-use Rattle.std.specs.Prelude.{◌≡◌, Bool, true, false, cond, ◌&&◌, List, [], ◌∷◌, ℕ, suc, ◌+◌, ◌*◌, ◌≤◌, ◌<◌, eqb, ℤ, ◌+ℤ◌, ◌-ℤ◌, ◌≤ℤ◌}
+use Rattle.std.specs.Prelude.{◌≡◌, Bool, true, false, cond, ◌&&◌, List, [], ◌∷◌, ℕ, suc, ◌+◌, ◌≤◌, ◌<◌, eqb, ℤ, ◌+ℤ◌, ◌-ℤ◌, ◌≤ℤ◌}
 use Rattle.std.proofs.Math.Path.{refl}
 use Rattle.std.proofs.Common.{ap, arith, eqb-true}
 use Rattle.std.proofs.lemmas.Bool.{eqb-false}
 use Rattle.std.proofs.Math.IntN.{pos}
 use Rattle.whole.specs.Booleans.{both}
 use Rattle.whole.specs.Solver.{⇑, ⇓, ring}
-use Rattle.whole.specs.Tabulated.{tabulate}
 use Rattle.refusals.specs.Verdict.{Verdict, answered, refused, ◌then◌}
 use Rattle.dates.specs.Calendar.{new_year}
 use Rattle.dates.proofs.theory.Years.{in_order}
 use Rattle.series.specs.declared.Body.TheVariants.{Sun}
 use Rattle.series.specs.Series.{Series, series}
 use Rattle.marks.specs.Listed.{last_reached}
-use Rattle.inputs.specs.Inputs.{Inputs, sun, moon, day_of_mark}
+use Rattle.inputs.specs.Inputs.{Inputs, sun, moon}
 use Rattle.inputs.specs.Known.{Known}
 use Rattle.months.specs.declared.SuiDays.{SuiDays}
 use Rattle.months.specs.Months.{days_of}

@@ -6,7 +6,7 @@ use Rattle.whole.specs.Ranges.{back}
 use Rattle.whole.specs.Tests.{in_range, in_range_says}
 use Rattle.dates.specs.Calendar.{valid_date}
 use Rattle.dates.proofs.inner.valid.Goals as goal
-use Rattle.dates.proofs.inner.valid.Goals.{After-in_range, After-month_length, Else-not-in_range}
+use Rattle.dates.proofs.inner.valid.Goals.{After-in_range}
 
 at_month : (c : After-in_range) → in_range (pos 1) (pos 12) c.args.date.month ≡ c.in_range.result
 at_month c = sym (rw (back c.args.date.month (omega arith)) at c.in_range.ensures)

@@ -5,7 +5,7 @@ use Rattle.clock.specs.Leap.{leap_lawful}
 use Rattle.almanac.specs.Layout.{content_at}
 use Rattle.almanac.specs.theory.Checked.{entries_of, leap_read, too_many_entries, too_many_suis, no_suis, table_broken, suis_decide_file}
 use Rattle.reader.proofs.checking.lawful_at.Goals as goal
-use Rattle.reader.proofs.checking.lawful_at.Goals.{After-leap_lawful, After-read_entries, Start}
+use Rattle.reader.proofs.checking.lawful_at.Goals.{After-leap_lawful}
 
 -- the leap table that was read is the file's
 judged : (c : After-leap_lawful) → (let a = c.args in c.leap_lawful.result ≡ leap_lawful (content_at a.file.now a.n).leap)

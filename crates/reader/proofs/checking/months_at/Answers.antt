@@ -19,7 +19,7 @@ use Rattle.content.specs.Steps.{ordinary, walked_on}
 use Rattle.content.proofs.theory.Walk.{MonthsSoFar, no_month_yet, month_next, month_stops, leaps_decide}
 use Rattle.almanac.specs.Layout.{content_at}
 use Rattle.reader.proofs.checking.months_at.Goals as goal
-use Rattle.reader.proofs.checking.months_at.Goals.{After-count-last, After-judge_month-walked, At-loop-place, In-loop-place, Start}
+use Rattle.reader.proofs.checking.months_at.Goals.{After-count-last, After-judge_month-walked, At-loop-place, In-loop-place}
 
 counted : (c : After-count-last) → c.count-last.result ≡ nat_abs c.args.size
 counted c = let fs = c.ranges.size in ap nat_abs (rw (to_z-of_z fs) at c.count-last.ensures)

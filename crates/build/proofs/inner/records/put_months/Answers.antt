@@ -9,7 +9,7 @@ use Rattle.built.specs.Build.{words_of}
 use Rattle.built.specs.theory.Words.{length_words_of}
 use Rattle.build.specs.theory.Stored.{nothing_put, month_put}
 use Rattle.build.proofs.inner.records.put_months.Goals as goal
-use Rattle.build.proofs.inner.records.put_months.Goals.{At-loop-i, Start}
+use Rattle.build.proofs.inner.records.put_months.Goals.{At-loop-i}
 
 at_words : (c : At-loop-i) → length (words_of (take c.loop-i.i c.args.sui.months)) ≡ 3 * c.loop-i.i
 at_words c =
