@@ -1,7 +1,5 @@
--- What is proved of the rebuild, over its definitions (document 02, order 1): its file is the fresh build of the new inputs; which old files the old inputs give, and
--- 13 for every other; which years are listed, in rising order; that nothing of the old file is taken but records of those suis; one result. Assumes nothing but what
--- a statement says itself.
-use Rattle.std.specs.Prelude.{Bool, cond, List, [], ◌++◌, ℕ, zero, suc, ◌+◌, ℤ}
+-- What the months' words of the new file are taken from. Assumes nothing: this is a definition; what is proved of it and of the rebuild stands in `proofs/Theorems`.
+use Rattle.std.specs.Prelude.{Bool, cond, List, [], ◌++◌, ℕ, zero, suc, ℤ}
 
 -- ---- "Month records of a sui whose .. days are unchanged are copied from the old file"
 -- the months' words of n suis, sui by sui: the old ones of a sui that is kept, else those that are made

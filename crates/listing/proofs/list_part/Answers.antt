@@ -16,9 +16,7 @@ use Rattle.listed.specs.Listing.{listed_bytes, listed_words, printed}
 use Rattle.refusals.specs.Verdict.{refused}
 use Rattle.words.specs.Words.{words, words_length}
 use Rattle.listing.proofs.list_part.Goals as goal
-use Rattle.listing.proofs.list_part.Lts as lts
-use Rattle.listing.proofs.list_part.Reads as reads
-use Rattle.listing.proofs.list_part.Tie as tie
+use Rattle.listing.proofs.list_part.Goals.{After-is_zone}
 
 -- the words that were read
 read : (input : List ℕ) (n : ℕ) (rest last : List ℤ) → last ≡ words input n ++ drop n rest → take n last ≡ words input n
@@ -42,23 +40,20 @@ module _ (input : List ℕ) (zone : ℤ) (z : is_zone zone ≡ true) where
   unfolding listed_bytes zone_judged
   in_words h e = rw (z, le-ltb 65536 (length input) h, eq-eqb (length input % 8) 0 e)
 
-zone_told : (c : lts.After-is_zone tie.the-claims reads.Pre reads.Post tie.handed_clauses) → c.is_zone.result ≡ is_zone c.args.zone
+zone_told : (c : After-is_zone) → c.is_zone.result ≡ is_zone c.args.zone
 zone_told c = c.is_zone.ensures ∙ ap is_zone (to_z-of_z c.ranges.zone)
-
-in_zone : (c : lts.Else1 tie.the-claims reads.Pre reads.Post tie.handed_clauses) → is_zone c.args.zone ≡ true
-in_zone c = sym (zone_told c.before) ∙ c.if-not-is_zone.false
 
 pub returns-then-not-is_zone : goal.returns-then-not-is_zone
 returns-then-not-is_zone c =
-    rw (ap printed (no_zone c.args.input.now c.args.zone (sym (zone_told c.before.before.before.before.before.before) ∙ c.if-not-is_zone.true))) c.put_refusal.ensures
+    rw (ap printed (no_zone c.args.input.now c.args.zone (sym (zone_told (goal.at.returns-then-not-is_zone c).After-is_zone) ∙ c.if-not-is_zone.true))) c.put_refusal.ensures
 
 pub returns-then-input-gt65536 : goal.returns-then-input-gt65536
 returns-then-input-gt65536 c =
-    rw (ap printed (too_long c.args.input.now c.args.zone (in_zone c.before.before.before.before.before.before) c.if-input-gt65536.true)) c.put_refusal-then-input-gt65536.ensures
+    rw (ap printed (too_long c.args.input.now c.args.zone (sym (zone_told (goal.at.returns-then-input-gt65536 c).After-is_zone) ∙ c.if-not-is_zone.false) c.if-input-gt65536.true)) c.put_refusal-then-input-gt65536.ensures
 
 pub returns-then-input-ne0 : goal.returns-then-input-ne0
 returns-then-input-ne0 c =
-    rw (ap printed (not_in_words c.args.input.now c.args.zone (in_zone c.before.before.before.before.before.before.before) c.if-input-gt65536.false c.if-input-ne0.true)) c.put_refusal-then-input-ne0.ensures
+    rw (ap printed (not_in_words c.args.input.now c.args.zone (sym (zone_told (goal.at.returns-then-input-ne0 c).After-is_zone) ∙ c.if-not-is_zone.false) c.if-input-gt65536.false c.if-input-ne0.true)) c.put_refusal-then-input-ne0.ensures
 
 pub slice_bounds-put_words-end : goal.slice_bounds-put_words-end
 slice_bounds-put_words-end c =
@@ -68,10 +63,10 @@ slice_bounds-put_words-end c =
 pub put_words-requires : goal.put_words-requires
 put_words-requires c =
     let input = c.args.input.now in
-    rw (to_z-of_z c.ranges.zone, read input (length input / 8) _ _ c.read_words.ensures, words_length input (length input / 8)) (record { words_len_bound = omega (arith, c.if-input-gt65536.false); within = zone_is_small c.args.zone (in_zone c.before.before.before.before.before.before.before.before.before) })
+    rw (to_z-of_z c.ranges.zone, read input (length input / 8) _ _ c.read_words.ensures, words_length input (length input / 8)) (record { words_len_bound = omega (arith, c.if-input-gt65536.false); within = zone_is_small c.args.zone (sym (zone_told (goal.at.put_words-requires c).After-is_zone) ∙ c.if-not-is_zone.false) })
 
 pub returns : goal.returns
 returns c =
     let input = c.args.input.now in
-    rw (ap printed (in_words input c.args.zone (in_zone c.before.before.before.before.before.before.before.before.before.before.before.before) c.if-input-gt65536.false c.if-input-ne0.false))
+    rw (ap printed (in_words input c.args.zone (sym (zone_told (goal.at.returns c).After-is_zone) ∙ c.if-not-is_zone.false) c.if-input-gt65536.false c.if-input-ne0.false))
     (rw (to_z-of_z c.ranges.zone, read input (length input / 8) _ _ c.read_words.ensures) at c.put_words.ensures)
