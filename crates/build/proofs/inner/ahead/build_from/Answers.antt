@@ -4,6 +4,7 @@ use mathlib.Core.List.{List}
 use Prim.Native.Nat.{ℕ, ◌*◌, ◌/◌, ◌≤◌}
 use native.Mathlib.Omega.{arith}
 use lib.ListN.{length, length-replicate}
+use lib.Seq.{length-take-le}
 use mir.Syntax.{w64}
 use mir.Val.{to_z, of_z}
 use mir.Facts.{to_z-of_z}
@@ -72,12 +73,7 @@ pub slice_bounds-months-end : goal.slice_bounds-months-end
 slice_bounds-months-end c = let few = few_months c.before.before.before.before.before c.in-Years.is in omega (arith, few)
 
 pub slice_bounds-write_lawful-end-in-Years : goal.slice_bounds-write_lawful-end-in-Years
-slice_bounds-write_lawful-end-in-Years c =
-    let start = start_of c.before.before.before.before.before.before in
-    let a = start.args in
-    let found = found_with c.before.before.before.before.before.before c.in-Years.is in
-    let words = (rw (to_z-of_z start.ranges.zone, to_z-of_z start.ranges.first) at c.put_years-judged.ensures).months_after found.0 found.1 in
-    sym (ap length (front_months (inputs_of start) a.zone a.first a.n a.file.now found.1 _ found.2 words) ∙ month_length_lem (inputs_of start) a.zone a.first a.n a.file.now found.1 found.2)
+slice_bounds-write_lawful-end-in-Years c = sym (length-take-le _ _ (omega (arith, few_months c.before.before.before.before.before.before c.in-Years.is)))
 
 pub write_lawful-requires : goal.write_lawful-requires
 write_lawful-requires c =
