@@ -10,6 +10,7 @@ use std::{fs, io, str};
 const NAME: &str = "/proc/self/fd/3";
 
 // What is written to descriptor 3, where whoever started the program opened it for writing; what is written elsewhere is not kept.
+#[derive(Drop)]
 pub struct Third<'a, R: Files> {
     rt: &'a R,
     file: Option<R::File>,
