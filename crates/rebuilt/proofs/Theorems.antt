@@ -1,7 +1,7 @@
 -- What is proved of the rebuild, over its definitions (document 02, order 1): its file is the fresh build of the new inputs; which old files the old inputs give, and
 -- 13 for every other; which years are listed, in rising order; that nothing of the old file is taken but records of those suis; one result. Assumes nothing but what
 -- a statement says itself.
-use Rattle.std.specs.Prelude.{◌≡◌, Bool, true, false, cond, List, [], ◌++◌, ◌↔◌, ℕ, zero, suc, ◌+◌, ◌*◌, ◌≤◌, ◌<◌, ltb, ℤ, pos, nat_abs, ◌+ℤ◌, length, get_or, take, ◌<ℤ◌}
+use Rattle.std.specs.Prelude.{◌≡◌, Bool, true, false, cond, List, ◌++◌, ◌↔◌, ℕ, zero, suc, ◌+◌, ◌*◌, ◌≤◌, ◌<◌, ltb, ℤ, pos, nat_abs, ◌+ℤ◌, length, get_or, take, ◌<ℤ◌}
 use Rattle.std.proofs.Math.Path.{refl}
 use Rattle.std.proofs.Common.{sym, ap, ap₂, subst, ◌∙◌, arith, take-suc, take_all}
 use Rattle.refusals.specs.Verdict.{Verdict, answered, refused, OneToOne, then_answered, test_answered, before_answered, answers_apart, answer_or_refusal, refusals_apart, one_result, one_content, ◌then◌}
