@@ -7,7 +7,7 @@ use Rattle.std.proofs.Math.Decide.{dec_lt}
 use borrow.Author.Tests.{lt-ltb, le-ltb, ltb-false, not-false}
 use Rattle.std.proofs.Math.ListN.{length}
 use Rattle.std.proofs.Math.Seq.{length-take-le}
-use Rattle.refusals.specs.Verdict.{Verdict, answered, refused, refuse_when, answers_apart, answer_or_refusal, test_answered, ◌before◌, ◌then◌}
+use Rattle.refusals.specs.Verdict.{Verdict, answered, refused, answers_apart, answer_or_refusal, test_answered, ◌then◌}
 use Rattle.refusals.specs.Lent.{written_into}
 use Rattle.clock.specs.Clock.{is_zone}
 use Rattle.clock.specs.Answers.{zone_judged}

@@ -8,9 +8,7 @@ use Rattle.found_again.proofs.inner.begin_alike.Goals as goal
 
 pub returns-then-not-same_words : goal.returns-then-not-same_words
 unfolding begin_alike
-returns-then-not-same_words c =
-    let a = c.args in
-    sym (first_fails (same_words a.oldleap.now a.leap.now) (same_words a.old.now a.new.now) (sym c.same_words.ensures ∙ c.if-not-same_words.true))
+returns-then-not-same_words c = sym (first_fails _ _ (sym c.same_words.ensures ∙ c.if-not-same_words.true))
 
 pub returns : goal.returns
 unfolding begin_alike
