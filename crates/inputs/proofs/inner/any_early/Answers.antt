@@ -19,9 +19,6 @@ Found = After-second-1
 abbrev series_of : Found → Series
 series_of c = let a = c.args in series a.body a.start.0 a.coefs.now
 
-some : (c : Found) → 0 < length (listed_marks (series_of c))
-some c = omega (arith, c.count.ensures, c.if-count-eq0.false)
-
 is_first : (c : Found) → c.nth_mark-first.result.second ≡ second (get_or (listed_marks (series_of c)) 0 no_mark)
 is_first c = ap second c.nth_mark-first.ensures
 
@@ -31,8 +28,9 @@ returns-then-count-eq0 c =
     sym (no_marks a.leap.now (listed_marks (series a.body a.start.0 a.coefs.now)) (omega (arith, c.count.ensures, c.if-count-eq0.true)))
 
 pub early-requires : goal.early-requires
-early-requires c = record { leap_value = c.requires.leap_value; second_value = rw (is_first c) (first_converts (series_of c) c.requires.accepted (some c)) }
+early-requires c = record { leap_value = c.requires.leap_value; second_value = rw (is_first c) (first_converts (series_of c) c.requires.accepted (omega (arith, c.count.ensures, c.if-count-eq0.false))) }
 
 pub returns : goal.returns
 returns c =
-    c.early.ensures ∙ ap (early c.args.leap.now) (is_first c.before) ∙ first_tells (series_of c.before) c.requires.accepted (some c.before) c.args.leap.now
+    let some : 0 < length (listed_marks (series_of c.before)) = omega (arith, c.count.ensures, c.if-count-eq0.false) in
+    c.early.ensures ∙ ap (early c.args.leap.now) (is_first c.before) ∙ first_tells (series_of c.before) c.requires.accepted some c.args.leap.now
