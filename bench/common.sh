@@ -1,5 +1,5 @@
 # Sourced by bench/run, bench/stack and tests/c_interface: links C programs with the library of include/hazomekyu.h for x86-64 Linux, by the toolchain's own compiler,
-# linker and C library, and runs them as the toolchain runs programs. CC=name takes another C compiler, with everything of its own.
+# linker and C library, and runs them. CC=name takes another C compiler, with everything of its own.
 
 kit=$(dirname "$(rt doc)")
 tools=$kit/toolchain/bin libs=$kit/toolchain/lib archive=crates/exports/out/libexports.a made=target/linked

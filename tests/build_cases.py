@@ -176,8 +176,10 @@ def main():
         write_input(name, sun, moon, table, int(first), int(count), whole)
         return
     # what is built from the sample is shown by show_cases; crates/rebuild_real builds it
-    with open(os.path.join(here, 'samples', 'real_1995_2024.in'), 'rb') as f:
-        sample = built(f.read())
+    with open(os.path.join(here, 'samples', 'real_1995_2024.in'), 'rb') as f, open(os.path.join(here, 'crates', 'rebuild_real', 'data', 'sample'), 'rb') as g:
+        series = f.read()
+        assert series == g.read(), 'samples/real_1995_2024.in and crates/rebuild_real/data/sample differ'
+        sample = built(series)
     with open(os.path.join(here, 'crates', 'show_cases', 'data', 'sample'), 'wb') as f:
         f.write(sample)
     args, expected = [], b''

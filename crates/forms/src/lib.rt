@@ -1,5 +1,5 @@
 // The named form of a series: its start second and its lent coefficients travel as one thing. The functions over it take it apart and call the entry point over start and
-// coefficients; each is proved by a walk of its code, and promises what that entry point does.
+// coefficients, and promise what that entry point does.
 #![tactic(auto)]
 
 ghost use Rattle.std.specs.Prelude.{◌≡◌, length};

@@ -1,4 +1,4 @@
-// The named forms, made and run by another crate: a series as one thing, and a lent list of records. Two functions hold them and are walks; all else takes plain values.
+// The named forms, made and run by another crate: a series as one thing, and a lent list of records. Two functions hold them; all else takes plain values.
 #![tactic(auto)]
 
 ghost use Rattle.std.specs.Prelude.{◌≡◌, replicate};

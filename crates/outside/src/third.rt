@@ -45,19 +45,20 @@ fn stand_in(told: &str) -> Option<Stand> {
     })
 }
 
-// How descriptor 3 stands, or nothing where it is closed; an error where the system tells of no descriptor.
+// How descriptor 3 stands, or nothing where it is closed; an error where the system does not tell.
 fn third_stands<R: Files>(rt: &R) -> io::Result<Option<Stand>> {
     let mut told = [0u8; 4096];
-    let _asked = File::open(rt, "/proc/self/status")?;
-    match File::open(rt, "/proc/self/fdinfo/3") {
-        Ok(mut file) => {
-            let n = read_full(&mut file, &mut told)?;
-            match str::from_utf8(&told[..n]) {
-                Ok(text) => Ok(stand_in(text)),
-                Err(_) => Err(Error::from(ErrorKind::InvalidData)),
-            }
-        }
-        Err(_) => Ok(None),
+    let _tells = fs::metadata(rt, "/proc/self/fdinfo")?;
+    let mut file = match File::open(rt, "/proc/self/fdinfo/3") {
+        Ok(file) => file,
+        Err(error) if error.kind() == ErrorKind::NotFound => return Ok(None),
+        Err(error) => return Err(error),
+    };
+    let n = read_full(&mut file, &mut told)?;
+    let stand = str::from_utf8(&told[..n]).ok().and_then(stand_in);
+    match stand {
+        Some(stand) => Ok(Some(stand)),
+        None => Err(Error::from(ErrorKind::InvalidData)),
     }
 }
 
