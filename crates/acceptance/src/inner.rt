@@ -16,6 +16,7 @@ use whole::inner::in_range;
 pub mod judging;
 
 // H, half the seconds of a segment.
+// Kept: a number for each body in one line; a record of all such numbers would be made for one of its fields.
 pub fn half_length(body: Body) -> usize
     ensures { result ≡ (numbers body).half_length }
 {
@@ -26,6 +27,7 @@ pub fn half_length(body: Body) -> usize
 }
 
 // How many units a mark is.
+// Kept: a number for each body in one line; a record of all such numbers would be made for one of its fields.
 pub fn mark_size(body: Body) -> i64
     ensures { result ≡ pos (numbers body).mark_size }
 {

@@ -13,6 +13,7 @@ fn differ(a: &[i64], b: &[i64], i: usize) -> i64
 }
 
 // The bits in which four differ.
+// Kept: four and sixteen apart, since a generic one would compute its step from a constant argument, which Rattle has not.
 fn four_differ(a: &[i64], b: &[i64], i: usize) -> i64
     requires i_in_bounds { i + 6 < length a.now }
     requires i_in_bounds_2 { i + 6 < length b.now }
@@ -24,6 +25,7 @@ fn four_differ(a: &[i64], b: &[i64], i: usize) -> i64
 }
 
 // The bits in which sixteen differ.
+// Kept: four and sixteen apart, since a generic one would compute its step from a constant argument, which Rattle has not.
 fn sixteen_differ(a: &[i64], b: &[i64], i: usize) -> i64
     requires i_in_bounds { i + 30 < length a.now }
     requires i_in_bounds_2 { i + 30 < length b.now }
@@ -41,10 +43,11 @@ fn same_half(a: &[i64], b: &[i64], k: usize) -> bool
     ensures { result ≡ true → HalfAt a.now b.now k }
 {
     let mut differing: i64 = 0;
-    let mut j: usize = 0;
-    while j < 28 && differing >= 0 {
+    for j in 0..28 {
         differing = differing | sixteen_differ(a, b, k + 32 * j);
-        j += 1;
+        if differing < 0 {
+            return false;
+        }
     }
     differing == 0
 }

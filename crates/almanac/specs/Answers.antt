@@ -1,22 +1,10 @@
 -- What the entry points of this crate answer, on paper, and what each lent place holds afterwards: 13 for a file, or lists to be written, that break their rules, then 12
 -- where lent room has fewer places than the whole answer fills. Assumes nothing: these are definitions.
 use Rattle.std.specs.Prelude.{Bool, not, ◌||◌, List, ℕ, ltb, length}
-use Rattle.refusals.specs.Verdict.{Verdict, answered, refusal, refuse_when, ◌before◌, ◌then◌}
+use Rattle.refusals.specs.Verdict.{Verdict, answered, refuse_when, ◌before◌, ◌then◌}
 use Rattle.almanac.specs.declared.Counts.{Counts}
-use Rattle.almanac.specs.declared.FileAnswer.{FileAnswer}
-use Rattle.almanac.specs.declared.FileAnswer.TheVariants as file-answer
-use Rattle.almanac.specs.declared.WriteAnswer.{WriteAnswer}
-use Rattle.almanac.specs.declared.WriteAnswer.TheVariants as write-answer
 use Rattle.content.specs.Content.{Content, entry_count, sui_count, month_count, lawful}
 use Rattle.almanac.specs.Layout.{bytes_of, file_of}
-
-abbrev pub paper_file : FileAnswer → Verdict Counts
-paper_file (file-answer.File n) = answered n
-paper_file (file-answer.Refused r) = refusal r
-
-abbrev pub paper_written : WriteAnswer → Verdict ℕ
-paper_written (write-answer.Written bytes) = answered bytes
-paper_written (write-answer.Refused r) = refusal r
 
 -- the three counts of a content
 abbrev pub counts_in : Content → Counts

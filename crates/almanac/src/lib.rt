@@ -2,24 +2,10 @@
 // Nothing here runs: the functions are those of `reader` and `writer`.
 #![tactic(auto)]
 
-use refusals::Refusal;
-
 // How many leap entries, suis and months a file has.
 #[derive(Clone, Copy)]
 pub struct Counts {
     pub entries: usize,
     pub suis: usize,
     pub months: usize,
-}
-
-#[derive(Clone, Copy)]
-pub enum FileAnswer {
-    File(Counts),
-    Refused(Refusal),
-}
-
-#[derive(Clone, Copy)]
-pub enum WriteAnswer {
-    Written(usize),
-    Refused(Refusal),
 }

@@ -8,7 +8,7 @@ use Rattle.refusals.specs.Lent.{written_into}
 use Rattle.dates.specs.declared.Date.{Date}
 use Rattle.series.specs.declared.Body.{Body}
 use Rattle.series.specs.declared.Body.TheVariants.{Sun, Moon}
-use Rattle.served.specs.Served.{near, long}
+use Rattle.served.specs.declared.Side.TheVariants.{Near, Long}
 use Rattle.months.specs.declared.Sui.{Sui}
 use Rattle.built.specs.Build.{words_of}
 use Rattle.answers.specs.Record.{number_of, record_of, no_numbers, date_numbers, day_numbers, milli_numbers, shown_numbers, value_numbers, served_numbers, count_numbers, file_numbers, rebuilt_numbers, body_of}
@@ -64,9 +64,9 @@ examples =
     ∷ same (number_of slow) (pos 4)
     ∷ same_words (record_of (refused 6 0) shown_numbers) (zero9 (pos 6) (pos 0) (pos 0))
     -- of two series: 0 for near, 1 for long, and the segment
-    ∷ same_words (record_of (answered (record { side = near; segment = 0 })) served_numbers) (zero9 (pos 0) (pos 0) (pos 0))
-    ∷ same_words (record_of (answered (record { side = near; segment = 1999 })) served_numbers) (nine (pos 0) (pos 0) (pos 0) (pos 1999) (pos 0) (pos 0) (pos 0) (pos 0) (pos 0))
-    ∷ same_words (record_of (answered (record { side = long; segment = 15999 })) served_numbers) (nine (pos 0) (pos 0) (pos 1) (pos 15999) (pos 0) (pos 0) (pos 0) (pos 0) (pos 0))
+    ∷ same_words (record_of (answered (record { side = Near; segment = 0 })) served_numbers) (zero9 (pos 0) (pos 0) (pos 0))
+    ∷ same_words (record_of (answered (record { side = Near; segment = 1999 })) served_numbers) (nine (pos 0) (pos 0) (pos 0) (pos 1999) (pos 0) (pos 0) (pos 0) (pos 0) (pos 0))
+    ∷ same_words (record_of (answered (record { side = Long; segment = 15999 })) served_numbers) (nine (pos 0) (pos 0) (pos 1) (pos 15999) (pos 0) (pos 0) (pos 0) (pos 0) (pos 0))
     ∷ same_words (record_of (refused 18 0) served_numbers) (zero9 (pos 18) (pos 0) (pos 0))
     -- the numbers of the table: 1 to 18, but for 11, 14, 16 and 17
     ∷ not (in_table 0)

@@ -4,7 +4,8 @@ use Rattle.std.specs.Prelude.{◌≡◌, refl, Bool, true, false, not, ◌&&◌,
 use Rattle.std.proofs.Common.{arith}
 use Rattle.refusals.specs.Verdict.{Verdict, answered, refused, refuse_when, ◌before◌, ◌then◌}
 use Rattle.clock.specs.declared.ShownTime.{ShownTime}
-use Rattle.served.specs.Served.{Served}
+use Rattle.months.specs.declared.Sui.{Sui}
+use Rattle.served.specs.declared.Served.{Served}
 use Rattle.almanac.specs.declared.Counts.{Counts}
 use Rattle.rebuilt.specs.declared.Rebuilt.{Rebuilt}
 
@@ -36,6 +37,10 @@ itself n = n
 -- the counts of a shown time
 abbrev pub shown_size : ShownTime → ℕ
 shown_size t = t.hour + (t.minute + (t.second + t.millisecond))
+
+-- of a sui
+abbrev pub sui_size : Sui → ℕ
+sui_size sui = sui.count
 
 -- of a file
 abbrev pub file_size : Counts → ℕ

@@ -3,3 +3,4 @@ pub mod Months
 pub mod Fits
 pub mod Theorems
 pub mod Examples
+pub mod Said

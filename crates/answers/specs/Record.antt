@@ -8,7 +8,9 @@ use Rattle.dates.specs.declared.Date.{Date}
 use Rattle.clock.specs.declared.ShownTime.{ShownTime}
 use Rattle.series.specs.declared.Body.{Body}
 use Rattle.series.specs.declared.Body.TheVariants.{Sun, Moon}
-use Rattle.served.specs.Served.{Side, near, long, Served}
+use Rattle.served.specs.declared.Served.{Served}
+use Rattle.served.specs.declared.Side.{Side}
+use Rattle.served.specs.declared.Side.TheVariants.{Near, Long}
 use Rattle.almanac.specs.declared.Counts.{Counts}
 use Rattle.rebuilt.specs.declared.Rebuilt.{Rebuilt}
 
@@ -45,8 +47,8 @@ value_numbers value = value ∷ []
 
 -- of two series: which one serves, near 0 and long 1, and by which segment
 abbrev pub side_number : Side → ℤ
-side_number near = pos 0
-side_number long = pos 1
+side_number Near = pos 0
+side_number Long = pos 1
 
 abbrev pub served_numbers : Served → List ℤ
 served_numbers g = side_number g.side ∷ pos g.segment ∷ []

@@ -2,13 +2,13 @@
 #![tactic(auto)]
 
 ghost use Rattle.std.specs.Prelude.{◌≡◌, length};
+ghost use Rattle.refusals.specs.Verdict.{paper};
 ghost use Rattle.refusals.specs.Lent.{written_into};
 ghost use Rattle.inputs.specs.Inputs.{inputs};
-ghost use Rattle.almanac.specs.Answers.{paper_written, all_bytes};
+ghost use Rattle.almanac.specs.Answers.{all_bytes};
 ghost use Rattle.built.specs.Build.{bytes_built, file_built};
 
-use almanac::WriteAnswer;
-use refusals::Check;
+use refusals::Refusal;
 use times::Second;
 use whole::inner::in_range;
 
@@ -26,16 +26,13 @@ pub fn build(
     first: i64,
     count: i64,
     file: &mut [u8],
-) -> WriteAnswer
-    ensures result_value { paper_written result ≡ file_built (inputs leap.now sunstart.0 sun.now moonstart.0 moon.now) zone first count (length file.old) }
+) -> Result<usize, Refusal>
+    ensures result_value { paper result ≡ file_built (inputs leap.now sunstart.0 sun.now moonstart.0 moon.now) zone first count (length file.old) }
     ensures file_after { file.new ≡ written_into (bytes_built (inputs leap.now sunstart.0 sun.now moonstart.0 moon.now) zone first count (length file.old)) all_bytes file.old }
 {
-    let check = inputs::judge_in(leap, sunstart, sun, moonstart, moon, zone);
-    if let Check::Refused(r) = check {
-        return WriteAnswer::Refused(r);
-    }
+    inputs::judge_in(leap, sunstart, sun, moonstart, moon, zone)?;
     if !in_range(1, 128, count) {
-        return WriteAnswer::Refused(refusals::NO_SUI);
+        return Err(Refusal::NoSui);
     }
     let n = whole::inner::count(count);
     inner::build_in(leap, sunstart, sun, moonstart, moon, zone, first, n, file)

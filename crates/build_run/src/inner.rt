@@ -2,10 +2,8 @@
 ghost use Rattle.std.specs.Prelude.{◌≡◌, ℕ, ◌≤◌, IfErr, IfOk, length};
 ghost use Rattle.pieces.specs.Pieces.{TakenNext, TakenWhole, Taken};
 
-use building::SeriesAnswer;
 pub use outside::{open_argument, print_argument};
-use packing::PackAnswer;
-use refusals::Refusal;
+use series::Body;
 use std::io;
 use std::io::Read;
 use std::rt::Env;
@@ -24,43 +22,13 @@ pub fn file_room() -> [u8; 16140]
     [0; 16140]
 }
 
-fn print_segment(rt: &impl Print, r: Refusal) -> io::Result<()> {
-    if r.number < 3 {
-        return Ok(());
-    }
-    if 5 < r.number {
-        return Ok(());
-    }
-    let segment = r.segment;
-    print!(rt; " {segment}")
-}
-
-pub fn print_refusal(rt: &impl Print, r: Refusal) -> io::Result<()> {
-    let number = r.number;
-    print!(rt; "R {number}")?;
-    print_segment(rt, r)?;
-    println!(rt)
-}
-
-fn zone_room() -> [u8; 8]
-    ensures { 8 ≡ length result }
-{
-    [0; 8]
-}
-
 // The zone that a text says: one decimal word, the minutes. A text that says no word, or more than one, gets a number that is no zone: it is refused by 15.
+// Kept: a number that is no zone for a text that says none, since the entry point refuses both alike; an `Option` would be refused a second time here.
 fn zone_in(text: &[u8]) -> i64 {
-    let mut word = zone_room();
-    let answer = packing::pack(text, &mut word);
-    match answer {
-        PackAnswer::Bad(_, _) => -10000,
-        PackAnswer::Room => -10000,
-        PackAnswer::Packed(bytes) => {
-            if bytes != 8 {
-                return -10000;
-            }
-            words::inner::word_at(&word, 0)
-        }
+    let mut word = [0; 8];
+    match packing::pack(text, &mut word) {
+        Ok(8) => words::inner::word_at(&word, 0),
+        _ => -10000,
     }
 }
 
@@ -69,6 +37,7 @@ pub fn zone_argument(rt: &impl Env, i: usize) -> i64 {
     if !outside::has_argument(rt, i) {
         return 480;
     }
+    // Kept: fixed memory, no heap.
     let mut text = [0u8; 4096];
     let n = outside::argument(rt, i, &mut text);
     zone_in(&text[..n])
@@ -77,9 +46,9 @@ pub fn zone_argument(rt: &impl Env, i: usize) -> i64 {
 // Says on standard error whose series is refused; for other refusals nothing.
 pub fn print_series(rt: &impl Eprint, words: &[i64], bytes: usize, zone: i64) -> io::Result<()> {
     match building::refused_series(words, bytes, zone) {
-        SeriesAnswer::Sun => eprintln!(rt; "the Sun's series"),
-        SeriesAnswer::Moon => eprintln!(rt; "the Moon's series"),
-        SeriesAnswer::Neither => Ok(()),
+        Some(Body::Sun) => eprintln!(rt; "the Sun's series"),
+        Some(Body::Moon) => eprintln!(rt; "the Moon's series"),
+        None => Ok(()),
     }
 }
 
@@ -96,6 +65,7 @@ fn take_next<I: Read>(input: &mut I, taken: usize, words: &mut [i64]) -> io::Res
     ensures next { IfOk result (λ bytes. TakenNext taken words.old words.new bytes) }
     ensures failed { IfErr result (λ error. words.new ≡ words.old) }
 {
+    // Kept: fixed memory, no heap.
     let mut piece = piece_room();
     let n = outside::read_full(input, &mut piece)?;
     Ok(pieces::inner::take(&piece[..n], taken, words))

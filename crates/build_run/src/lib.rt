@@ -2,7 +2,6 @@
 // 3 to 5 with the segment. For 2 to 5 one line on standard error says whose series it is. The zone is the program's argument.
 #![tactic(auto)]
 
-use almanac::WriteAnswer;
 use std::io;
 use std::io::Read;
 
@@ -15,13 +14,12 @@ fn print_built(
     zone: i64,
 ) -> io::Result<()> {
     let mut file = inner::file_room();
-    let answer = building::build_taken(words, bytes, zone, &mut file);
-    match answer {
-        WriteAnswer::Refused(r) => {
-            inner::print_refusal(rt, r)?;
+    match building::build_taken(words, bytes, zone, &mut file) {
+        Err(r) => {
+            println!(rt; "R {r}")?;
             inner::print_series(rt, words, bytes, zone)
         }
-        WriteAnswer::Written(n) => rt.write_all(&file[..n]),
+        Ok(n) => rt.write_all(&file[..n]),
     }
 }
 

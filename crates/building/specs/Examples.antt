@@ -1,6 +1,6 @@
 -- The input of the build program on both sides of its bounds, and whose series is refused: computed facts, checked at once. (What is built from accepted series is
 -- stepped second by second, and run by programs.) Assumes nothing.
-use Rattle.std.specs.Prelude.{Bool, true, false, not, List, [], ◌∷◌, ◌++◌, T, ℤ, pos, negsuc, replicate}
+use Rattle.std.specs.Prelude.{Bool, true, false, not, List, [], ◌∷◌, ◌++◌, T, ℤ, pos, negsuc, replicate, Option, Some, None}
 use Rattle.whole.specs.Floor.{floor_div}
 use Rattle.whole.specs.Below.{every}
 use Rattle.whole.specs.Evaluated.{all}
@@ -12,29 +12,29 @@ use Rattle.clock.specs.Clock.{is_zone, utc8}
 use Rattle.clock.specs.Answers.{zone_judged, leap_judged}
 use Rattle.chebyshev.specs.Polynomials.{P}
 use Rattle.chebyshev.specs.Segment.{sum, value, slope}
+use Rattle.series.specs.declared.Body.{Body}
+use Rattle.series.specs.declared.Body.TheVariants.{Sun, Moon}
 use Rattle.series.specs.Acceptance.{series_judged}
 use Rattle.inputs.specs.Inputs.{inputs_judged, judged_in}
 use Rattle.layout.specs.Layout.{section_end, places}
 use Rattle.built.specs.Build.{built_by}
-use Rattle.building.specs.declared.SeriesAnswer.{SeriesAnswer}
-use Rattle.building.specs.declared.SeriesAnswer.TheVariants.{Sun, Moon, Neither}
 use Rattle.building.specs.Building.{built_from_rest, built_from_words, length_kept, built_from, all_taken, built_from_taken}
 use Rattle.building.specs.Refused.{refused_of, refused_in_rest, refused_in_words, refused_series, refused_in_taken}
 
-abbrev is_sun : SeriesAnswer → Bool
-is_sun Sun = true
-is_sun Moon = false
-is_sun Neither = false
+abbrev is_sun : Option Body → Bool
+is_sun (Some Sun) = true
+is_sun (Some Moon) = false
+is_sun None = false
 
-abbrev is_moon : SeriesAnswer → Bool
-is_moon Sun = false
-is_moon Moon = true
-is_moon Neither = false
+abbrev is_moon : Option Body → Bool
+is_moon (Some Sun) = false
+is_moon (Some Moon) = true
+is_moon None = false
 
-abbrev is_neither : SeriesAnswer → Bool
-is_neither Sun = false
-is_neither Moon = false
-is_neither Neither = true
+abbrev is_neither : Option Body → Bool
+is_neither (Some Sun) = false
+is_neither (Some Moon) = false
+is_neither None = true
 
 -- a series of one segment with c1 alone
 abbrev one : ℤ → List ℤ

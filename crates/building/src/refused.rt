@@ -4,10 +4,9 @@ ghost use Rattle.inputs.specs.Inputs.{inputs};
 ghost use Rattle.layout.specs.Layout.{inputs_at};
 ghost use Rattle.building.specs.Refused.{refused_of, refused_in_rest, refused_in_words};
 
-use crate::SeriesAnswer;
+use acceptance::accept;
 use conversion::judge_leap_table;
-use layout::inner::PlacesAnswer;
-use refusals::Check;
+use layout::inner::find_places;
 use series::Body;
 use times::Second;
 
@@ -18,26 +17,23 @@ fn of_inputs(
     sun: &[i64],
     moonstart: Second,
     moon: &[i64],
-) -> SeriesAnswer
+) -> Option<Body>
     ensures { result ≡ refused_of (inputs leap.now sunstart.0 sun.now moonstart.0 moon.now) }
 {
-    let table = judge_leap_table(leap);
-    if let Check::Refused(_) = table {
-        return SeriesAnswer::Neither;
+    if judge_leap_table(leap).is_err() {
+        return None;
     }
-    let sun_check = acceptance::accept(Body::Sun, sunstart, sun);
-    if let Check::Refused(_) = sun_check {
-        return SeriesAnswer::Sun;
+    if accept(Body::Sun, sunstart, sun).is_err() {
+        return Some(Body::Sun);
     }
-    let moon_check = acceptance::accept(Body::Moon, moonstart, moon);
-    if let Check::Refused(_) = moon_check {
-        return SeriesAnswer::Moon;
+    if accept(Body::Moon, moonstart, moon).is_err() {
+        return Some(Body::Moon);
     }
-    SeriesAnswer::Neither
+    None
 }
 
 // By the words of leap table, Sun and Moon, whose sections stand at these places.
-fn in_sections(words: &[i64], sun: usize, moon: usize) -> SeriesAnswer
+fn in_sections(words: &[i64], sun: usize, moon: usize) -> Option<Body>
     requires le_sun { (1 ≤ sun) × ((sun + 2 ≤ moon) × (moon + 2 ≤ length words.now)) }
     requires words_len_bound { length words.now ≤ 300000 }
     ensures { result ≡ refused_of (inputs_at words.now (record { sun = sun; moon = moon })) }
@@ -56,23 +52,23 @@ fn in_sections(words: &[i64], sun: usize, moon: usize) -> SeriesAnswer
 }
 
 // By the words behind first Y and count.
-fn in_rest(words: &[i64]) -> SeriesAnswer
+fn in_rest(words: &[i64]) -> Option<Body>
     requires { length words.now ≤ 300000 }
     ensures { result ≡ refused_in_rest words.now }
 {
-    match layout::inner::find_places(words) {
-        PlacesAnswer::Refused(_) => SeriesAnswer::Neither,
-        PlacesAnswer::Found(p) => in_sections(words, p.sun, p.moon),
+    match find_places(words) {
+        Err(_) => None,
+        Ok(p) => in_sections(words, p.sun, p.moon),
     }
 }
 
 // By all words.
-pub fn in_words(words: &[i64]) -> SeriesAnswer
+pub fn in_words(words: &[i64]) -> Option<Body>
     requires { length words.now ≤ 300000 }
     ensures { result ≡ refused_in_words words.now }
 {
     if words.len() < 2 {
-        return SeriesAnswer::Neither;
+        return None;
     }
     in_rest(&words[2..])
 }

@@ -1,11 +1,11 @@
 -- What is proved of the file build, over its definitions: what is built is lawful, it holds the leap table and the sui of each year, the reader accepts it and
 -- reads that content; one result. Assumes nothing but what a statement says itself.
-use Rattle.std.specs.Prelude.{◌≡◌, true, not, List, ℕ, ◌+◌, ◌/◌, ◌≤◌, ◌<◌, ltb, ℤ, pos, nat_abs, ◌+ℤ◌, length}
+use Rattle.std.specs.Prelude.{◌≡◌, true, not, List, ℕ, ◌+◌, ◌/◌, ◌≤◌, ◌<◌, ltb, ℤ, pos, nat_abs, ◌+ℤ◌, length, Result}
 use Rattle.std.proofs.Common.{sym, ap, ◌∙◌, arith}
 use Rattle.std.proofs.lemmas.Bool.{not-false}
 use Rattle.whole.specs.Ranges.{Within}
 use Rattle.whole.specs.Tests.{in_range}
-use Rattle.refusals.specs.Verdict.{Verdict, answered, accepted, refuse_when, ◌before◌, ◌then◌, then_answered, test_answered, answers_apart, one_result, one_content}
+use Rattle.refusals.specs.Verdict.{Verdict, answered, accepted, refuse_when, ◌before◌, ◌then◌, then_answered, test_answered, answers_apart, one_result, one_content, paper}
 use Rattle.refusals.specs.Lent.{written_into}
 use Rattle.inputs.specs.Inputs.{Inputs, judged_in}
 use Rattle.inputs.specs.Known.{Known}
@@ -15,10 +15,9 @@ use Rattle.months.specs.Answers.{no_sui}
 use Rattle.months.proofs.theory.Suis.{month}
 use Rattle.sui.specs.Sui.{sui_for, sui_of_year}
 use Rattle.sui.proofs.theory.Answered.{inputs_answered}
-use Rattle.almanac.specs.declared.WriteAnswer.{WriteAnswer}
 use Rattle.content.specs.Content.{Content, sui_count, year_at, count_at, month_at, months_before, lawful}
 use Rattle.almanac.specs.Layout.{bytes_of, file_of}
-use Rattle.almanac.specs.Answers.{paper_written, bytes_into, all_bytes}
+use Rattle.almanac.specs.Answers.{bytes_into, all_bytes}
 use Rattle.almanac.specs.Theorems.{written_is_read}
 use Rattle.almanac.specs.OneResult.{written_apart}
 use Rattle.built.specs.Build.{suis_from, sui_words, content_for, content_built, bytes_built, file_built, built_by, bytes_by, content_by}
@@ -27,6 +26,7 @@ use Rattle.built.specs.theory.Years.{suis_are}
 use Rattle.built.specs.theory.Records.{sui_at, suis_whole, year_at_lem, count_at_lem, month_at_lem}
 use Rattle.built.specs.theory.Count.{count_small}
 use Rattle.built.specs.theory.Lawful.{content_is_lawful}
+use Rattle.refusals.specs.declared.Refusal.{Refusal}
 
 -- a content that was built is that of the suis that were found
 suis_built : (i : Inputs) (zone first : ℤ) (n : ℕ) {c : Content} → content_built i zone first n ≡ answered c → (suis : List Sui) × (suis_from i zone first n ≡ answered suis) × (content_for i.leap first suis ≡ c)
@@ -106,8 +106,8 @@ built_is_read i zone first count room {bytes} e =
 
 -- ---- one result: any two answers that the build may give are the same, and so is what the lent file holds
 module _ (i : Inputs) (zone first count : ℤ) where
-  pub build_one_result : (room : ℕ) (a b : WriteAnswer) → paper_written a ≡ file_built i zone first count room → paper_written b ≡ file_built i zone first count room → a ≡ b
-  build_one_result room a b p q = one_result paper_written written_apart a b p q
+  pub build_one_result : (room : ℕ) (a b : Result ℕ Refusal) → paper a ≡ file_built i zone first count room → paper b ≡ file_built i zone first count room → a ≡ b
+  build_one_result room a b p q = one_result paper written_apart a b p q
 
   pub build_one_content : (file a b : List ℕ) → a ≡ written_into (bytes_built i zone first count (length file)) all_bytes file → b ≡ written_into (bytes_built i zone first count (length file)) all_bytes file → a ≡ b
   build_one_content file a b p q = one_content a b p q

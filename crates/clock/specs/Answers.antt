@@ -1,15 +1,11 @@
 -- What the entry points of this crate answer: 15 for a zone out of range, first of all (document 02, order 5), 1 for a leap table that breaks its rule, then 6 for a
 -- second outside the conversion range, then 7 for an instant before the first entry (document 01, "Refusal numbers"). Assumes nothing: these are definitions.
 use Rattle.std.specs.Prelude.{not, List, ℤ}
-use Rattle.refusals.specs.Verdict.{Verdict, answered, refusal, refuse_when, ◌before◌}
+use Rattle.refusals.specs.Verdict.{Verdict, answered, refuse_when, ◌before◌}
 use Rattle.times.specs.declared.Day.{Day}
 use Rattle.times.specs.declared.Second.{Second}
 use Rattle.times.specs.declared.Milli.{Milli}
 use Rattle.clock.specs.declared.ShownTime.{ShownTime}
-use Rattle.clock.specs.declared.MilliAnswer.{MilliAnswer}
-use Rattle.clock.specs.declared.ShownAnswer.{ShownAnswer}
-use Rattle.clock.specs.declared.MilliAnswer.TheVariants as milli
-use Rattle.clock.specs.declared.ShownAnswer.TheVariants as shown
 use Rattle.clock.specs.Leap.{leap_lawful}
 use Rattle.clock.specs.Clock.{is_zone, convertible, early, milli_in, day_in, shown_in}
 
@@ -32,12 +28,3 @@ day_of_second leap s zone = clock_judged leap s zone before answered (day_in lea
 
 unfoldable pub shown_of : List ℤ → Second → ℤ → Verdict ShownTime
 shown_of leap s zone = clock_judged leap s zone before answered (shown_in leap s zone)
-
--- what the answers say on paper
-abbrev pub paper_milli : MilliAnswer → Verdict Milli
-paper_milli (milli.Found m) = answered m
-paper_milli (milli.Refused r) = refusal r
-
-abbrev pub paper_shown : ShownAnswer → Verdict ShownTime
-paper_shown (shown.Found s) = answered s
-paper_shown (shown.Refused r) = refusal r

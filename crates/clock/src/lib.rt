@@ -3,7 +3,6 @@
 #![tactic(auto)]
 
 use dates::Date;
-use refusals::Refusal;
 use times::Milli;
 
 // One reading of the clock: the count in the zone, and whether the second is an inserted one.
@@ -21,16 +20,4 @@ pub struct ShownTime {
     pub minute: u64,
     pub second: u64,
     pub millisecond: u64,
-}
-
-#[derive(Clone, Copy)]
-pub enum MilliAnswer {
-    Found(Milli),
-    Refused(Refusal),
-}
-
-#[derive(Clone, Copy)]
-pub enum ShownAnswer {
-    Found(ShownTime),
-    Refused(Refusal),
 }

@@ -1,6 +1,6 @@
 -- The rules of `Content` as a walk meets them, record after record: what the records before this one ask of it is carried along. `theory.Walk` says that they
 -- are the same rules. Assumes nothing: these are definitions.
-use Rattle.std.specs.Prelude.{Bool, true, false, cond, ◌&&◌, List, ℕ, zero, suc, ◌+◌, ◌-◌, ◌*◌, ◌/◌, eqb, leb, ℤ, pos, ◌+ℤ◌, ◌-ℤ◌, ◌*ℤ◌, length}
+use Rattle.std.specs.Prelude.{Bool, cond, Option, Some, None, ◌&&◌, List, ℕ, zero, suc, ◌+◌, ◌-◌, ◌*◌, ◌/◌, eqb, leb, ℤ, pos, ◌+ℤ◌, ◌-ℤ◌, ◌*ℤ◌, length}
 use Rattle.whole.specs.Floor.{floor_mod}
 use Rattle.whole.specs.Tests.{in_range, is_exactly}
 use Rattle.whole.specs.Below.{every}
@@ -37,16 +37,13 @@ handle_after year h = cond (is_exactly (pos 32 *ℤ year +ℤ pos 24) h) (h -ℤ
 unfoldable pub leap_handle : ℤ → ℤ → ℕ → ℕ → ℤ → Bool
 leap_handle year count leaps place h = is_exactly (pos 13) count && (eqb leaps 0 && (leb 1 place && is_exactly (handle_at year place place) h))
 
--- ---- one month more
-abbrev pub stopped : Walked
-stopped = record { good = false; leaps = 0; next = pos 0; due = pos 0 }
-
-unfoldable pub walked_on : ℤ → ℤ → ℕ → ℕ → ℤ → ℤ → ℤ → ℤ → Walked
+-- ---- one month more: where the walk then stands, if the month is good
+unfoldable pub walked_on : ℤ → ℤ → ℕ → ℕ → ℤ → ℤ → ℤ → ℤ → Option Walked
 walked_on year count leaps place due h first length =
     cond
     (days_after due first length && good_handle year count leaps place h)
-    (record { good = true; leaps = leaps + floor_mod h 2; next = ordinary year (place + 1 - (leaps + floor_mod h 2)); due = first +ℤ length })
-    stopped
+    (Some (record { leaps = leaps + floor_mod h 2; next = ordinary year (place + 1 - (leaps + floor_mod h 2)); due = first +ℤ length }))
+    None
 
 -- ---- all suis and their months
 unfoldable pub suis_lawful : List ℤ → List ℤ → Bool

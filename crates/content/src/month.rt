@@ -3,9 +3,8 @@ ghost use Rattle.std.specs.Prelude.{◌≡◌, ◌<◌};
 ghost use Rattle.whole.specs.Ranges.{Within};
 ghost use Rattle.whole.specs.Tests.{is_exactly};
 ghost use Rattle.months.specs.Handles.{handle_at};
-ghost use Rattle.content.specs.Steps.{days_after, leap_handle, handle_after, stopped};
+ghost use Rattle.content.specs.Steps.{days_after, leap_handle, handle_after};
 
-use crate::inner::Walked;
 use dates::inner::has_date;
 use month_rule::inner::month_of;
 use times::Day;
@@ -66,16 +65,4 @@ pub fn good_days(due: i64, first: i64, size: i64) -> bool
     }
     let behind = add(first, size);
     has_date(Day(subtract(behind, 1)))
-}
-
-// A month was not good.
-pub fn stopped() -> Walked
-    ensures { result ≡ stopped }
-{
-    Walked {
-        good: false,
-        leaps: 0,
-        next: 0,
-        due: 0,
-    }
 }

@@ -3,14 +3,14 @@
 ghost use Rattle.std.specs.Prelude.{◌≡◌, true, suc, ◌+◌, ◌*◌, ◌<◌, pos, ◌+ℤ◌, ◌*ℤ◌, length};
 ghost use Rattle.whole.specs.Ranges.{Within};
 ghost use Rattle.whole.specs.Tests.{is_exactly};
-ghost use Rattle.refusals.specs.Verdict.{paper_check};
+ghost use Rattle.refusals.specs.Verdict.{paper};
 ghost use Rattle.dates.specs.Answers.{has_date};
 ghost use Rattle.clock.specs.Leap.{entries, offset, utc_day, first_entry, next_entry, good_entry, whole_pairs, leap_lawful, holds_from, holds, entry_used, inserted};
 ghost use Rattle.clock.specs.Clock.{is_zone, convertible, tai, early, local_milli, reading, milli_in, read_off, count_in, day_of_milli, day_in, second_said, shown_by, shown_in, Readable};
 ghost use Rattle.clock.specs.Answers.{clock_judged};
 
 use clock::{Reading, ShownTime};
-use refusals::Check;
+use refusals::Refusal;
 use times::{Day, Milli, Second};
 use whole::inner::{floor_mod, in_range};
 
@@ -83,6 +83,7 @@ fn good_entry(leap: &[i64], i: usize) -> bool
 }
 
 // Whether so many words may be a table: 1 to 64 entries in whole pairs.
+// Kept: two limits of a count; a function of both would be no shorter, and its limit would stand away from its rule.
 fn whole_pairs(words: usize) -> bool
     ensures { result ≡ whole_pairs words }
 {
@@ -102,14 +103,7 @@ pub fn leap_lawful(leap: &[i64]) -> bool
     if !whole_pairs(leap.len()) {
         return false;
     }
-    let mut i: usize = 0;
-    while i < leap.len() / 2 {
-        if !good_entry(leap, i) {
-            return false;
-        }
-        i += 1;
-    }
-    true
+    (0..leap.len() / 2).all(|i| good_entry(leap, i))
 }
 
 // The TAI millisecond at which a UTC day begins under an offset.
@@ -149,6 +143,7 @@ fn entry_used(leap: &[i64], t: Tai) -> usize
 {
     let mut low: usize = 0;
     let mut high = leap.len() / 2;
+    // Kept: a bisection by hand, since the table is one flat list of pairs, as C lends it, and `partition_point` needs a slice of entries.
     while low + 1 < high {
         let middle = low + (high - low) / 2;
         if holds(leap, t, middle) {
@@ -201,22 +196,22 @@ pub fn is_zone(zone: i64) -> bool
 }
 
 // Whether a second is converted by a table in a zone: the judge behind the conversions.
-pub fn judge(leap: &[i64], second: Second, zone: i64) -> Check
-    ensures { paper_check result ≡ clock_judged leap.now second zone }
+pub fn judge(leap: &[i64], second: Second, zone: i64) -> Result<(), Refusal>
+    ensures { paper result ≡ clock_judged leap.now second zone }
 {
     if !is_zone(zone) {
-        return Check::Refused(refusals::ZONE);
+        return Err(Refusal::Zone);
     }
     if !leap_lawful(leap) {
-        return Check::Refused(refusals::LEAP_TABLE);
+        return Err(Refusal::LeapTable);
     }
     if !convertible(second) {
-        return Check::Refused(refusals::OUTSIDE);
+        return Err(Refusal::Outside);
     }
     if early(leap, second) {
-        return Check::Refused(refusals::TOO_EARLY);
+        return Err(Refusal::TooEarly);
     }
-    Check::Accepted
+    Ok(())
 }
 
 // The local millisecond of a TAI millisecond under an offset.

@@ -3,26 +3,24 @@
 #![tactic(auto)]
 
 ghost use Rattle.std.specs.Prelude.{◌≡◌};
-ghost use Rattle.refusals.specs.Verdict.{paper_check};
-ghost use Rattle.dates.specs.Answers.{paper_day};
+ghost use Rattle.refusals.specs.Verdict.{paper};
 ghost use Rattle.clock.specs.Clock.{day_of_milli};
-ghost use Rattle.clock.specs.Answers.{leap_judged, milli_of, day_of_second, shown_of, paper_milli, paper_shown};
+ghost use Rattle.clock.specs.Answers.{leap_judged, milli_of, day_of_second, shown_of};
 
-use clock::{MilliAnswer, ShownAnswer};
-use dates::DayAnswer;
-use refusals::Check;
+use clock::ShownTime;
+use refusals::Refusal;
 use times::{Day, Milli, Second};
 
 pub mod inner;
 
 // Whether a leap table keeps its rule.
-pub fn judge_leap_table(leap: &[i64]) -> Check
-    ensures { paper_check result ≡ leap_judged leap.now }
+pub fn judge_leap_table(leap: &[i64]) -> Result<(), Refusal>
+    ensures { paper result ≡ leap_judged leap.now }
 {
     if inner::leap_lawful(leap) {
-        return Check::Accepted;
+        return Ok(());
     }
-    Check::Refused(refusals::LEAP_TABLE)
+    Err(Refusal::LeapTable)
 }
 
 // The day of a millisecond.
@@ -34,34 +32,25 @@ pub fn day_of_milli(milli: Milli) -> Day
 }
 
 // The zone's millisecond of a second.
-pub fn milli_of(leap: &[i64], second: Second, zone: i64) -> MilliAnswer
-    ensures { paper_milli result ≡ milli_of leap.now second zone }
+pub fn milli_of(leap: &[i64], second: Second, zone: i64) -> Result<Milli, Refusal>
+    ensures { paper result ≡ milli_of leap.now second zone }
 {
-    let check = inner::judge(leap, second, zone);
-    match check {
-        Check::Accepted => MilliAnswer::Found(inner::milli_in(leap, second, zone)),
-        Check::Refused(refusal) => MilliAnswer::Refused(refusal),
-    }
+    inner::judge(leap, second, zone)?;
+    Ok(inner::milli_in(leap, second, zone))
 }
 
 // The zone's day of a second.
-pub fn day_of_second(leap: &[i64], second: Second, zone: i64) -> DayAnswer
-    ensures { paper_day result ≡ day_of_second leap.now second zone }
+pub fn day_of_second(leap: &[i64], second: Second, zone: i64) -> Result<Day, Refusal>
+    ensures { paper result ≡ day_of_second leap.now second zone }
 {
-    let check = inner::judge(leap, second, zone);
-    match check {
-        Check::Accepted => DayAnswer::Found(inner::day_in(leap, second, zone)),
-        Check::Refused(refusal) => DayAnswer::Refused(refusal),
-    }
+    inner::judge(leap, second, zone)?;
+    Ok(inner::day_in(leap, second, zone))
 }
 
 // The zone's time of a second, as it is shown.
-pub fn shown(leap: &[i64], second: Second, zone: i64) -> ShownAnswer
-    ensures { paper_shown result ≡ shown_of leap.now second zone }
+pub fn shown(leap: &[i64], second: Second, zone: i64) -> Result<ShownTime, Refusal>
+    ensures { paper result ≡ shown_of leap.now second zone }
 {
-    let check = inner::judge(leap, second, zone);
-    match check {
-        Check::Accepted => ShownAnswer::Found(inner::shown_in(leap, second, zone)),
-        Check::Refused(refusal) => ShownAnswer::Refused(refusal),
-    }
+    inner::judge(leap, second, zone)?;
+    Ok(inner::shown_in(leap, second, zone))
 }

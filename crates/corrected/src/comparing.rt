@@ -30,6 +30,7 @@ fn same_up_to(old: &[i64], coefs: &[i64], from: usize, count: usize, n: usize) -
     ensures same_before_2 { SameBefore old.now coefs.now result }
 {
     let mut k = from;
+    // Kept: an index, since the answer is the place where the comparison stops, which a range by steps of n does not tell; chunks of 14 * n words need a test that the product fits.
     while n <= count - k && same_run(old, coefs, k, n) {
         k += n;
     }
@@ -48,6 +49,7 @@ fn same_down_to(old: &[i64], coefs: &[i64], first: usize, end: usize, n: usize) 
     ensures same_from_2 { SameFrom old.now coefs.now result }
 {
     let mut k = end;
+    // Kept: an index, since the answer is the place where the comparison stops, which a range by steps of n does not tell; chunks of 14 * n words need a test that the product fits.
     while n <= k - first && same_run(old, coefs, k - n, n) {
         k -= n;
     }

@@ -1,6 +1,6 @@
 // A corrected series against the one before it. Callers show that the old one is accepted, and hand on which segments changed.
 ghost use Rattle.std.specs.Prelude.{◌≡◌};
-ghost use Rattle.refusals.specs.Verdict.{paper_check};
+ghost use Rattle.refusals.specs.Verdict.{paper};
 ghost use Rattle.series.specs.declared.Body.TheVariants.{Sun, Moon};
 ghost use Rattle.series.specs.Series.{series};
 ghost use Rattle.series.specs.Acceptance.{Accepted, series_judged};
@@ -12,7 +12,7 @@ use super::judging::{begin_of, end_of, judged_part};
 use super::reaching::{reached_before, reached_from};
 use acceptance::inner::judging::shape;
 use inputs::inner::any_early;
-use refusals::Check;
+use refusals::Refusal;
 use series::Body;
 use times::Second;
 
@@ -51,15 +51,12 @@ pub fn accept_again(
     start: Second,
     coefs: &[i64],
     part: Changed,
-) -> Check
+) -> Result<(), Refusal>
     requires accepted { Accepted (series body oldstart.0 old.now) }
     requires shared { Shared old.now coefs.now part.first part.end }
-    ensures { paper_check result ≡ series_judged (series body start.0 coefs.now) }
+    ensures { paper result ≡ series_judged (series body start.0 coefs.now) }
 {
-    let judged = shape(body, start, coefs.len());
-    if let Check::Refused(r) = judged {
-        return Check::Refused(r);
-    }
+    shape(body, start, coefs.len())?;
     let from = begin_of(part.first);
     let to = end_of(part.end, coefs.len() / 14);
     judged_part(body, coefs, from, to)
@@ -78,32 +75,23 @@ pub fn judge_again(
     moon: &[i64],
     sunpart: Changed,
     moonpart: Changed,
-) -> Check
+) -> Result<(), Refusal>
     requires accepted { Accepted (series Sun oldsunstart.0 oldsun.now) }
     requires accepted_2 { Accepted (series Moon oldmoonstart.0 oldmoon.now) }
     requires shared { Shared oldsun.now sun.now sunpart.first sunpart.end }
     requires shared_2 { Shared oldmoon.now moon.now moonpart.first moonpart.end }
-    ensures { paper_check result ≡ inputs_judged (inputs leap.now sunstart.0 sun.now moonstart.0 moon.now) }
+    ensures { paper result ≡ inputs_judged (inputs leap.now sunstart.0 sun.now moonstart.0 moon.now) }
 {
-    let leap_check = conversion::judge_leap_table(leap);
-    if let Check::Refused(r) = leap_check {
-        return Check::Refused(r);
-    }
-    let sun_check = accept_again(Body::Sun, oldsunstart, oldsun, sunstart, sun, sunpart);
-    if let Check::Refused(r) = sun_check {
-        return Check::Refused(r);
-    }
-    let moon_check = accept_again(Body::Moon, oldmoonstart, oldmoon, moonstart, moon, moonpart);
-    if let Check::Refused(r) = moon_check {
-        return Check::Refused(r);
-    }
+    conversion::judge_leap_table(leap)?;
+    accept_again(Body::Sun, oldsunstart, oldsun, sunstart, sun, sunpart)?;
+    accept_again(Body::Moon, oldmoonstart, oldmoon, moonstart, moon, moonpart)?;
     if any_early(leap, Body::Sun, sunstart, sun) {
-        return Check::Refused(refusals::TOO_EARLY);
+        return Err(Refusal::TooEarly);
     }
     if any_early(leap, Body::Moon, moonstart, moon) {
-        return Check::Refused(refusals::TOO_EARLY);
+        return Err(Refusal::TooEarly);
     }
-    Check::Accepted
+    Ok(())
 }
 
 // Which marks may have moved, where both series begin at the same second.

@@ -1,13 +1,13 @@
 // Judging a part of the segments: those that changed, with one more on each side.
-ghost use Rattle.std.specs.Prelude.{◌≡◌, ◌-◌, ◌^◌, ◌≤◌, ◌<◌};
-ghost use Rattle.refusals.specs.Verdict.{paper_check};
+ghost use Rattle.std.specs.Prelude.{◌≡◌, ◌+◌, ◌-◌, ◌^◌, ◌≤◌, ◌<◌};
+ghost use Rattle.refusals.specs.Verdict.{paper, refusal_number, refusal_segment};
 ghost use Rattle.series.specs.Series.{segments};
 ghost use Rattle.series.specs.Acceptance.{judged_segments};
 ghost use Rattle.corrected.specs.theory.Parts.{part_of};
-ghost use Rattle.corrected.specs.theory.Shifted.{shifted_by, Below};
+ghost use Rattle.corrected.specs.theory.Shifted.{shifted_by};
 
 use acceptance::inner::judging::each_segment;
-use refusals::{Check, Refusal};
+use refusals::Refusal;
 use series::Body;
 
 // The segment before the first that differs, or that one.
@@ -36,26 +36,25 @@ pub fn part_of(coefs: &[i64], from: usize, to: usize) -> &[i64]
     &coefs[14 * from..14 * to]
 }
 
-// What is said of a part, said of the whole: `from` segments come before it.
-fn shifted(check: Check, from: usize) -> Check
-    requires { Below (2 ^ 62) (shifted_by from (paper_check check)) }
-    ensures { paper_check result ≡ shifted_by from (paper_check check) }
+// A refusal of a part, said of the whole: `from` segments come before it.
+fn shifted(refusal: Refusal, from: usize) -> Refusal
+    requires segment_bound { from + refusal_segment refusal < 2 ^ 62 }
+    ensures number_stays { refusal_number result ≡ refusal_number refusal }
+    ensures segment_is_later { 3 ≤ refusal_number refusal → refusal_number refusal ≤ 5 → refusal_segment result ≡ from + refusal_segment refusal }
 {
-    if let Check::Refused(r) = check {
-        return Check::Refused(Refusal {
-            number: r.number,
-            segment: from + r.segment,
-        });
+    match refusal {
+        Refusal::Coefficient(k) => Refusal::Coefficient(from + k),
+        Refusal::TooSlow(k) => Refusal::TooSlow(from + k),
+        Refusal::Joint(k) => Refusal::Joint(from + k),
+        other => other,
     }
-    Check::Accepted
 }
 
 // 3, 4 and 5 of a part of the segments, by their numbers in the whole.
-pub fn judged_part(body: Body, coefs: &[i64], from: usize, to: usize) -> Check
+pub fn judged_part(body: Body, coefs: &[i64], from: usize, to: usize) -> Result<(), Refusal>
     requires from_le_to { from ≤ to }
     requires to_bound { to ≤ segments coefs.now }
-    ensures { paper_check result ≡ shifted_by from (judged_segments body (part_of coefs.now from to)) }
+    ensures { paper result ≡ shifted_by from (judged_segments body (part_of coefs.now from to)) }
 {
-    let judged = each_segment(body, part_of(coefs, from, to));
-    shifted(judged, from)
+    each_segment(body, part_of(coefs, from, to)).map_err(|refusal| shifted(refusal, from))
 }

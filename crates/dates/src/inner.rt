@@ -91,17 +91,14 @@ fn lengths_in(y: i64) -> [usize; 12]
 fn months_over(lengths: &[usize], k: usize) -> usize
     ensures { result ≡ months_over lengths.now k }
 {
-    let mut over: usize = 0;
     let mut left = k;
-    while over < lengths.len() {
-        let month = lengths[over];
+    for (over, &month) in lengths.iter().enumerate() {
         if left < month {
             return over;
         }
         left -= month;
-        over += 1;
     }
-    over
+    lengths.len()
 }
 
 // The days of the first so many months.
@@ -110,13 +107,7 @@ fn days_of(lengths: &[usize], months: usize) -> usize
     requires lengths_bound { total lengths.now < 1000 }
     ensures { result ≡ total (take months lengths.now) }
 {
-    let mut days: usize = 0;
-    let mut i: usize = 0;
-    while i < months {
-        days += lengths[i];
-        i += 1;
-    }
-    days
+    lengths[..months].iter().sum()
 }
 
 // The date when k days of a year are over.

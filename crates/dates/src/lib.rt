@@ -2,7 +2,8 @@
 #![tactic(auto)]
 
 ghost use Rattle.std.specs.Prelude.{◌≡◌};
-ghost use Rattle.dates.specs.Answers.{date_of, day_of, paper_date, paper_day};
+ghost use Rattle.refusals.specs.Verdict.{paper};
+ghost use Rattle.dates.specs.Answers.{date_of, day_of};
 
 use refusals::Refusal;
 use times::Day;
@@ -17,42 +18,30 @@ pub struct Date {
     pub day: i64,
 }
 
-#[derive(Clone, Copy)]
-pub enum DateAnswer {
-    Found(Date),
-    Refused(Refusal),
-}
-
-#[derive(Clone, Copy)]
-pub enum DayAnswer {
-    Found(Day),
-    Refused(Refusal),
-}
-
 // The date of a day.
-pub fn date_of(day: Day) -> DateAnswer
-    ensures { paper_date result ≡ date_of day }
+pub fn date_of(day: Day) -> Result<Date, Refusal>
+    ensures { paper result ≡ date_of day }
 {
     if !inner::has_date(day) {
-        return DateAnswer::Refused(refusals::OUTSIDE);
+        return Err(Refusal::Outside);
     }
-    DateAnswer::Found(inner::date_for(day))
+    Ok(inner::date_for(day))
 }
 
 // The day of a date. The days of the range lie in the years 1589 to 2547. A year outside 1500 to 2600 has none of them, so that nothing is refused
 // here that has a day, and inside them the day number is small: nothing overflows, whatever three numbers a date is made of.
-pub fn day_of(date: Date) -> DayAnswer
-    ensures { paper_day result ≡ day_of date }
+pub fn day_of(date: Date) -> Result<Day, Refusal>
+    ensures { paper result ≡ day_of date }
 {
     if !in_range(1500, 2600, date.year) {
-        return DayAnswer::Refused(refusals::OUTSIDE);
+        return Err(Refusal::Outside);
     }
     if !inner::valid(date) {
-        return DayAnswer::Refused(refusals::OUTSIDE);
+        return Err(Refusal::Outside);
     }
     let day = inner::day_number(date);
     if !inner::has_date(day) {
-        return DayAnswer::Refused(refusals::OUTSIDE);
+        return Err(Refusal::Outside);
     }
-    DayAnswer::Found(day)
+    Ok(day)
 }

@@ -3,7 +3,6 @@
 
 ghost use Rattle.std.specs.Prelude.{◌<◌, ◌≤◌};
 
-use dates::{DateAnswer, DayAnswer};
 use std::io;
 use times::Day;
 
@@ -17,19 +16,19 @@ fn day_at(k: usize) -> Day
 // Whether the day of the date of a day is that day.
 fn comes_back(day: Day) -> bool {
     match dates::date_of(day) {
-        DateAnswer::Found(date) => match dates::day_of(date) {
-            DayAnswer::Found(back) => back.0 == day.0,
-            DayAnswer::Refused(_) => false,
+        Ok(date) => match dates::day_of(date) {
+            Ok(back) => back.0 == day.0,
+            Err(_) => false,
         },
-        DateAnswer::Refused(_) => false,
+        Err(_) => false,
     }
 }
 
 // Whether the date of a day has this day of the month.
 fn has_day(day: Day, wanted: i64) -> bool {
     match dates::date_of(day) {
-        DateAnswer::Found(date) => date.day == wanted,
-        DateAnswer::Refused(_) => false,
+        Ok(date) => date.day == wanted,
+        Err(_) => false,
     }
 }
 
@@ -43,13 +42,11 @@ fn main(rt: HostRuntime) -> io::Result<()> {
     let mut back: u64 = 0;
     let mut firsts: u64 = 0;
     let mut lasts: u64 = 0;
-    let mut k: usize = 0;
-    while k < 350001 {
+    for k in 0..350001 {
         let day = day_at(k);
         back += one_if(comes_back(day));
         firsts += one_if(has_day(day, 1));
         lasts += one_if(has_day(day, 31));
-        k += 1;
     }
     println!(rt; "{back} days there and back, {firsts} firsts, {lasts} thirty-firsts")
 }

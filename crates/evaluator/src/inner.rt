@@ -20,12 +20,10 @@ pub fn out_of_range(coefs: &[i64]) -> bool
     requires { length coefs.now ≡ 14 }
     ensures { result ≡ segment.out_of_range coefs.now }
 {
-    let mut n = 0;
-    while n < 14 {
+    for n in 0..14 {
         if limit_of(n) < whole::absolute(coefs[n]) {
             return true;
         }
-        n += 1;
     }
     false
 }
@@ -67,13 +65,11 @@ pub fn value(x: i64, coefs: &[i64]) -> i64
     let mut before: i64 = 66355200;
     let mut here = x;
     let mut sum = coefs[1] * x;
-    let mut n = 2;
-    while n < coefs.len() {
+    for n in 2..coefs.len() {
         let after = next(x, here, before);
         before = here;
         here = after;
         sum += coefs[n] * here;
-        n += 1;
     }
     coefs[0] + floor_of_sum(sum)
 }
@@ -94,10 +90,8 @@ pub fn slope(coefs: &[i64]) -> i64
     ensures { result ≡ segment.slope coefs.now }
 {
     let mut left = coefs[1];
-    let mut n = 2;
-    while n < 14 {
+    for n in 2..14 {
         left -= weight(coefs[n], n);
-        n += 1;
     }
     left
 }
@@ -109,10 +103,8 @@ pub fn even_sum(coefs: &[i64]) -> i64
     ensures { result ≡ even_sum coefs.now }
 {
     let mut sum = coefs[0];
-    let mut i = 1;
-    while i < 7 {
+    for i in 1..7 {
         sum += coefs[2 * i];
-        i += 1;
     }
     sum
 }
@@ -124,10 +116,8 @@ pub fn odd_sum(coefs: &[i64]) -> i64
     ensures { result ≡ odd_sum coefs.now }
 {
     let mut sum = coefs[1];
-    let mut i = 1;
-    while i < 7 {
+    for i in 1..7 {
         sum += coefs[2 * i + 1];
-        i += 1;
     }
     sum
 }
@@ -148,10 +138,8 @@ pub fn square_sum(coefs: &[i64]) -> i64
     ensures { result ≡ square_sum coefs.now }
 {
     let mut sum = 0;
-    let mut n = 1;
-    while n < 14 {
+    for n in 1..14 {
         sum += squared(coefs[n], n);
-        n += 1;
     }
     sum
 }

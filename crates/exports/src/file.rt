@@ -8,7 +8,7 @@ ghost use Rattle.built.specs.Build.{bytes_built, file_built};
 ghost use Rattle.rebuilt.specs.Rebuild.{rebuilt, counted, new_bytes, kept_years};
 ghost use Rattle.answers.specs.Record.{number_of, record_of, count_numbers, file_numbers, rebuilt_numbers};
 
-use answer_record::inner::record;
+use answer_record::inner::record::{record, tell};
 use times::Second;
 
 // Checks a file.
@@ -17,7 +17,7 @@ pub extern "C" fn hzk_check_file(file: &[u8], answer: &mut [i64; 9]) -> i64
     ensures value { result ≡ number_of (checked_file file.now) }
     ensures answer_after { answer.new ≡ record_of (checked_file file.now) file_numbers }
 {
-    record::tell(record::file_record(reader::check_file(file)), answer)
+    tell(record(reader::check_file(file)), answer)
 }
 
 // Reads a file into lent words.
@@ -36,7 +36,7 @@ pub extern "C" fn hzk_read_file(
     ensures months_after { months.new ≡ written_into (content_read file.now (length leap.old) (length suis.old) (length months.old)) month_words months.old }
 {
     let read = reader::read_file(file, leap, suis, months);
-    record::tell(record::file_record(read), answer)
+    tell(record(read), answer)
 }
 
 // Writes a file from the lists that reading gives.
@@ -53,7 +53,7 @@ pub extern "C" fn hzk_write_file(
     ensures file_after { file.new ≡ written_into (bytes_to_write (content leap.now suis.now months.now) (length file.old)) all_bytes file.old }
 {
     let written = writer::write_file(leap, suis, months, file);
-    record::tell(record::written_record(written), answer)
+    tell(record(written), answer)
 }
 
 // Builds a file of `count` suis from year `first` on, by the days of a zone.
@@ -85,7 +85,7 @@ pub extern "C" fn hzk_build(
         count,
         file,
     );
-    record::tell(record::written_record(built), answer)
+    tell(record(built), answer)
 }
 
 // Rebuilds an old file from new inputs, by the days of a zone, and lists the years of the suis whose days stay as they were.
@@ -128,5 +128,5 @@ pub extern "C" fn hzk_rebuild(
         file,
         years,
     );
-    record::tell(record::rebuilt_record(rebuilt), answer)
+    tell(record(rebuilt), answer)
 }

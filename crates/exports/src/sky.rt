@@ -9,7 +9,7 @@ ghost use Rattle.marks.specs.Answers.{counted_marks, listed_into, words_listed};
 ghost use Rattle.inputs.specs.Inputs.{inputs, inputs_judged};
 ghost use Rattle.answers.specs.Record.{number_of, record_of, no_numbers, value_numbers, served_numbers, count_numbers, body_of};
 
-use answer_record::inner::record;
+use answer_record::inner::record::{record, tell};
 use series::Body;
 use times::Second;
 
@@ -21,13 +21,14 @@ fn body_of(moon: bool) -> Body
 }
 
 // Whether a series is accepted.
+// Kept: the C interface names each.
 #[unsafe(no_mangle)]
 pub extern "C" fn hzk_accept(moon: bool, start: i64, coefs: &[i64], answer: &mut [i64; 9]) -> i64
     ensures value { result ≡ number_of (series_judged (series (body_of moon) start coefs.now)) }
     ensures answer_after { answer.new ≡ record_of (series_judged (series (body_of moon) start coefs.now)) no_numbers }
 {
-    record::tell(
-        record::check_record(acceptance::accept(body_of(moon), Second(start), coefs)),
+    tell(
+        record(acceptance::accept(body_of(moon), Second(start), coefs)),
         answer,
     )
 }
@@ -44,13 +45,8 @@ pub extern "C" fn hzk_value_at(
     ensures value { result ≡ number_of (value_of (series (body_of moon) start coefs.now) second) }
     ensures answer_after { answer.new ≡ record_of (value_of (series (body_of moon) start coefs.now) second) value_numbers }
 {
-    record::tell(
-        record::value_record(acceptance::value_at(
-            body_of(moon),
-            Second(start),
-            coefs,
-            Second(second),
-        )),
+    tell(
+        record(acceptance::value_at(body_of(moon), Second(start), coefs, Second(second))),
         answer,
     )
 }
@@ -77,7 +73,7 @@ pub extern "C" fn hzk_serves(
         long,
         Second(second),
     );
-    record::tell(record::served_record(served), answer)
+    tell(record(served), answer)
 }
 
 // The words of a lent part, by value: how many a result has is known, of a lent array it is not.
@@ -103,10 +99,11 @@ pub extern "C" fn hzk_replace_segment(
 {
     let words = words_of(part);
     let replaced = replacing::replace_segment(body_of(moon), Second(start), coefs, number, words);
-    record::tell(record::check_record(replaced), answer)
+    tell(record(replaced), answer)
 }
 
 // How many marks a series lists.
+// Kept: the C interface names each.
 #[unsafe(no_mangle)]
 pub extern "C" fn hzk_count_marks(
     moon: bool,
@@ -117,8 +114,8 @@ pub extern "C" fn hzk_count_marks(
     ensures value { result ≡ number_of (counted_marks (series (body_of moon) start coefs.now)) }
     ensures answer_after { answer.new ≡ record_of (counted_marks (series (body_of moon) start coefs.now)) count_numbers }
 {
-    record::tell(
-        record::count_record(finder::count_marks(body_of(moon), Second(start), coefs)),
+    tell(
+        record(finder::count_marks(body_of(moon), Second(start), coefs)),
         answer,
     )
 }
@@ -137,7 +134,7 @@ pub extern "C" fn hzk_list_marks(
     ensures marks_after { marks.new ≡ written_into (listed_into (series (body_of moon) start coefs.now) (length marks.old)) (words_listed (series (body_of moon) start coefs.now)) marks.old }
 {
     let listed = finder::list_marks(body_of(moon), Second(start), coefs, marks);
-    record::tell(record::list_record(listed), answer)
+    tell(record(listed), answer)
 }
 
 // The same list, by the plain walk.
@@ -154,7 +151,7 @@ pub extern "C" fn hzk_walk_marks(
     ensures marks_after { marks.new ≡ written_into (listed_into (series (body_of moon) start coefs.now) (length marks.old)) (words_listed (series (body_of moon) start coefs.now)) marks.old }
 {
     let listed = walk::list_marks(body_of(moon), Second(start), coefs, marks);
-    record::tell(record::list_record(listed), answer)
+    tell(record(listed), answer)
 }
 
 // Whether a build takes its inputs.
@@ -171,5 +168,5 @@ pub extern "C" fn hzk_judge_inputs(
     ensures answer_after { answer.new ≡ record_of (inputs_judged (inputs leap.now sunstart sun.now moonstart moon.now)) no_numbers }
 {
     let judged = inputs::judge(leap, Second(sunstart), sun, Second(moonstart), moon);
-    record::tell(record::check_record(judged), answer)
+    tell(record(judged), answer)
 }

@@ -2,16 +2,16 @@
 #![tactic(auto)]
 
 ghost use Rattle.std.specs.Prelude.{◌≡◌, length};
+ghost use Rattle.refusals.specs.Verdict.{paper};
 ghost use Rattle.series.specs.Series.{series};
 ghost use Rattle.series.specs.Acceptance.{Accepted};
 ghost use Rattle.marks.specs.Words.{mark_words};
 ghost use Rattle.marks.specs.Stretch.{StretchOf};
 ghost use Rattle.marks.specs.Listed.{marks_between};
 ghost use Rattle.refusals.specs.Lent.{written_into};
-ghost use Rattle.marks.specs.Answers.{paper_count, paper_list, counted_marks, listed_into, words_listed};
+ghost use Rattle.marks.specs.Answers.{counted_marks, listed_into, words_listed};
 
-use marks::{CountAnswer, ListAnswer};
-use refusals::Check;
+use refusals::Refusal;
 use series::Body;
 use times::Second;
 
@@ -53,55 +53,49 @@ fn find(
 }
 
 // The number of marks of a series.
-pub fn count_marks(body: Body, start: Second, coefs: &[i64]) -> CountAnswer
-    ensures { paper_count result ≡ counted_marks (series body start.0 coefs.now) }
+pub fn count_marks(body: Body, start: Second, coefs: &[i64]) -> Result<usize, Refusal>
+    ensures { paper result ≡ counted_marks (series body start.0 coefs.now) }
 {
-    let check = acceptance::accept(body, start, coefs);
-    match check {
-        Check::Accepted => CountAnswer::Marks(inner::count(body, start, coefs)),
-        Check::Refused(refusal) => CountAnswer::Refused(refusal),
-    }
+    acceptance::accept(body, start, coefs)?;
+    Ok(inner::count(body, start, coefs))
 }
 
 // What a listing into so many words answers, before anything is written.
-fn plan(body: Body, start: Second, coefs: &[i64], room: usize) -> ListAnswer
-    ensures { paper_list result ≡ listed_into (series body start.0 coefs.now) room }
+fn plan(body: Body, start: Second, coefs: &[i64], room: usize) -> Result<usize, Refusal>
+    ensures { paper result ≡ listed_into (series body start.0 coefs.now) room }
 {
-    let check = acceptance::accept(body, start, coefs);
-    if let Check::Refused(refusal) = check {
-        return ListAnswer::Refused(refusal);
+    acceptance::accept(body, start, coefs)?;
+    let marks = inner::count(body, start, coefs);
+    if room / 2 < marks {
+        return Err(Refusal::Room);
     }
-    let count = inner::count(body, start, coefs);
-    if room / 2 < count {
-        return ListAnswer::Refused(refusals::ROOM);
-    }
-    ListAnswer::Marks(count)
+    Ok(marks)
 }
 
 // The marks of a series in time order, from the start of `out` on: two words to a mark, its index and its second.
-pub fn list_marks(body: Body, start: Second, coefs: &[i64], out: &mut [i64]) -> ListAnswer
-    ensures result_value { paper_list result ≡ listed_into (series body start.0 coefs.now) (length out.old) }
+pub fn list_marks(
+    body: Body,
+    start: Second,
+    coefs: &[i64],
+    out: &mut [i64],
+) -> Result<usize, Refusal>
+    ensures result_value { paper result ≡ listed_into (series body start.0 coefs.now) (length out.old) }
     ensures out_after { out.new ≡ written_into (listed_into (series body start.0 coefs.now) (length out.old)) (words_listed (series body start.0 coefs.now)) out.old }
 {
-    let plan = plan(body, start, coefs, out.len());
-    match plan {
-        ListAnswer::Refused(refusal) => ListAnswer::Refused(refusal),
-        ListAnswer::Marks(count) => {
-            let last = acceptance::inner::last_second(body, start, coefs);
-            let lowest = inner::first_reached(body, start, coefs);
-            let highest = inner::last_reached(body, start, coefs);
-            let needed = 2 * count;
-            find(
-                body,
-                start,
-                coefs,
-                start,
-                last,
-                lowest,
-                highest,
-                &mut out[..needed],
-            );
-            ListAnswer::Marks(count)
-        }
-    }
+    let count = plan(body, start, coefs, out.len())?;
+    let last = acceptance::inner::last_second(body, start, coefs);
+    let lowest = inner::first_reached(body, start, coefs);
+    let highest = inner::last_reached(body, start, coefs);
+    let needed = 2 * count;
+    find(
+        body,
+        start,
+        coefs,
+        start,
+        last,
+        lowest,
+        highest,
+        &mut out[..needed],
+    );
+    Ok(count)
 }

@@ -3,20 +3,21 @@
 
 ghost use Rattle.std.specs.Prelude.{◌≡◌, replicate};
 ghost use Rattle.refusals.specs.Lent.{written_into};
+ghost use Rattle.refusals.specs.Verdict.{paper};
 ghost use Rattle.series.specs.Series.{series};
-ghost use Rattle.marks.specs.Answers.{paper_count, counted_marks};
+ghost use Rattle.marks.specs.Answers.{counted_marks};
 ghost use Rattle.months.specs.Limits.{months_of};
 ghost use Rattle.records.specs.Records.{records_into, all_records};
 
-use marks::CountAnswer;
 use months::Month;
+use refusals::Refusal;
 use series::Body;
 use std::io;
 use times::Second;
 
 // The number of marks, by way of the struct.
-fn counted(body: Body, start: Second, coefs: &[i64]) -> CountAnswer
-    ensures { paper_count result ≡ counted_marks (series body start.0 coefs.now) }
+fn counted(body: Body, start: Second, coefs: &[i64]) -> Result<usize, Refusal>
+    ensures { paper result ≡ counted_marks (series body start.0 coefs.now) }
 {
     forms::count_marks(body, forms::series_of(start, coefs))
 }
@@ -26,7 +27,7 @@ fn listed(year: i64, moons: &[i64], zhongqi: &[i64], rest: Month) -> [Month; 13]
     ensures { result ≡ written_into (records_into (months_of year moons.now zhongqi.now) 13) all_records (replicate 13 rest) }
 {
     let mut list = [rest; 13];
-    records::months_into(year, moons, zhongqi, &mut list);
+    let _ = records::months_into(year, moons, zhongqi, &mut list);
     list
 }
 
@@ -35,13 +36,10 @@ fn print(rt: &impl Print, n: i64) -> io::Result<()> {
     print!(rt; "{size}")
 }
 
-fn print_count(rt: &impl Print, answer: CountAnswer) -> io::Result<()> {
+fn print_count(rt: &impl Print, answer: Result<usize, Refusal>) -> io::Result<()> {
     match answer {
-        CountAnswer::Marks(n) => println!(rt; "{n} marks"),
-        CountAnswer::Refused(r) => {
-            let number = r.number;
-            println!(rt; "R {number}")
-        }
+        Ok(n) => println!(rt; "{n} marks"),
+        Err(r) => println!(rt; "R {}", r.number()),
     }
 }
 
@@ -57,10 +55,8 @@ fn print_month(rt: &impl Print, month: Month) -> io::Result<()> {
 
 // Each place of the list.
 fn print_list(rt: &impl Print, list: [Month; 13]) -> io::Result<()> {
-    let mut i: usize = 0;
-    while i < 13 {
-        print_month(rt, list[i])?;
-        i += 1;
+    for month in list {
+        print_month(rt, month)?;
     }
     println!(rt)
 }

@@ -1,14 +1,13 @@
 -- Inputs are accepted exactly when they are known to be good; and of a ready series: each mark's second can be converted, and days of marks rise with the index.
 -- Assumes nothing.
-use Rattle.std.specs.Prelude.{◌≡◌, true, not, ◌↔◌, List, ℤ, ◌≤ℤ◌, ◌<ℤ◌}
+use Rattle.std.specs.Prelude.{◌≡◌, true, not, ◌↔◌, List, ℤ, ◌≤ℤ◌, ◌<ℤ◌, Result}
 use Rattle.std.proofs.Common.{ap, ⊎_elim}
 use Rattle.std.proofs.lemmas.Bool.{not-false}
 use Rattle.whole.specs.Parts.{◌⩽◌}
 use Rattle.whole.specs.Laws.{<→≤, ≤_total, ≤_antisymm, ≤_of-≡}
 use Rattle.whole.specs.Booleans.{neither}
 use Rattle.whole.specs.Ranges.{Within}
-use Rattle.refusals.specs.Verdict.{accepted, before_accepted, refuse_when_accepted, one_result, paper_check, checks_apart}
-use Rattle.refusals.specs.declared.Check.{Check}
+use Rattle.refusals.specs.Verdict.{accepted, before_accepted, refuse_when_accepted, one_result, checks_apart, paper}
 use Rattle.clock.specs.Leap.{leap_lawful}
 use Rattle.clock.specs.Answers.{zone_judged, leap_judged}
 use Rattle.clock.proofs.Theorems.{days_never_go_back}
@@ -18,6 +17,7 @@ use Rattle.marks.specs.Listed.{listed_marks, first_reached, last_reached, second
 use Rattle.marks.proofs.Theorems.{later_marks_are_later}
 use Rattle.inputs.specs.Inputs.{Inputs, sun, moon, any_early, inputs_judged, judged_in, InputsAccepted, day_of_mark}
 use Rattle.inputs.specs.Known.{Ready, Known}
+use Rattle.refusals.specs.declared.Refusal.{Refusal}
 
 -- ---- accepted exactly when
 pub leap_known : (leap : List ℤ) → leap_judged leap ≡ accepted → leap_lawful leap ≡ true
@@ -54,11 +54,11 @@ unfolding judged_in
 accepted_in i zone e = let a = before_accepted (zone_judged zone) (inputs_judged i) e in (zone_known zone a.0, a.1)
 
 -- ---- any two results that a judge may give are the same result
-pub judge_one_result : (i : Inputs) (a b : Check) → paper_check a ≡ inputs_judged i → paper_check b ≡ inputs_judged i → a ≡ b
-judge_one_result i a b = one_result paper_check checks_apart a b
+pub judge_one_result : (i : Inputs) (a b : Result (Unit {0}) Refusal) → paper a ≡ inputs_judged i → paper b ≡ inputs_judged i → a ≡ b
+judge_one_result i a b = one_result paper checks_apart a b
 
-pub judge_in_one_result : (i : Inputs) (zone : ℤ) (a b : Check) → paper_check a ≡ judged_in i zone → paper_check b ≡ judged_in i zone → a ≡ b
-judge_in_one_result i zone a b = one_result paper_check checks_apart a b
+pub judge_in_one_result : (i : Inputs) (zone : ℤ) (a b : Result (Unit {0}) Refusal) → paper a ≡ judged_in i zone → paper b ≡ judged_in i zone → a ≡ b
+judge_in_one_result i zone a b = one_result paper checks_apart a b
 
 -- ---- of a ready series: days of marks rise with the index
 pub mark_days_rise : (leap : List ℤ) (s : Series) → Ready leap s → (j k : ℤ) → first_reached s <ℤ j → j ≤ℤ k → k ≤ℤ last_reached s → (zone : ℤ) → (day_of_mark leap s zone j).0 ⩽ (day_of_mark leap s zone k).0

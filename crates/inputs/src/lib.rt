@@ -2,11 +2,11 @@
 #![tactic(auto)]
 
 ghost use Rattle.std.specs.Prelude.{◌≡◌};
-ghost use Rattle.refusals.specs.Verdict.{paper_check};
+ghost use Rattle.refusals.specs.Verdict.{paper};
 ghost use Rattle.inputs.specs.Inputs.{inputs, inputs_judged, judged_in};
 
 use conversion::inner::is_zone;
-use refusals::Check;
+use refusals::Refusal;
 use series::Body;
 use times::Second;
 
@@ -14,28 +14,25 @@ pub mod inner;
 
 // Judges everything that a build is handed: the leap table (1), the whole Sun series and the whole Moon series (2 to 5), and that no listed mark lies before the
 // first leap entry (7).
-pub fn judge(leap: &[i64], sunstart: Second, sun: &[i64], moonstart: Second, moon: &[i64]) -> Check
-    ensures { paper_check result ≡ inputs_judged (inputs leap.now sunstart.0 sun.now moonstart.0 moon.now) }
+pub fn judge(
+    leap: &[i64],
+    sunstart: Second,
+    sun: &[i64],
+    moonstart: Second,
+    moon: &[i64],
+) -> Result<(), Refusal>
+    ensures { paper result ≡ inputs_judged (inputs leap.now sunstart.0 sun.now moonstart.0 moon.now) }
 {
-    let leap_check = conversion::judge_leap_table(leap);
-    if let Check::Refused(r) = leap_check {
-        return Check::Refused(r);
-    }
-    let sun_check = acceptance::accept(Body::Sun, sunstart, sun);
-    if let Check::Refused(r) = sun_check {
-        return Check::Refused(r);
-    }
-    let moon_check = acceptance::accept(Body::Moon, moonstart, moon);
-    if let Check::Refused(r) = moon_check {
-        return Check::Refused(r);
-    }
+    conversion::judge_leap_table(leap)?;
+    acceptance::accept(Body::Sun, sunstart, sun)?;
+    acceptance::accept(Body::Moon, moonstart, moon)?;
     if inner::any_early(leap, Body::Sun, sunstart, sun) {
-        return Check::Refused(refusals::TOO_EARLY);
+        return Err(Refusal::TooEarly);
     }
     if inner::any_early(leap, Body::Moon, moonstart, moon) {
-        return Check::Refused(refusals::TOO_EARLY);
+        return Err(Refusal::TooEarly);
     }
-    Check::Accepted
+    Ok(())
 }
 
 // The same for a call that answers in a zone: the zone is judged first of all (15).
@@ -46,11 +43,11 @@ pub fn judge_in(
     moonstart: Second,
     moon: &[i64],
     zone: i64,
-) -> Check
-    ensures { paper_check result ≡ judged_in (inputs leap.now sunstart.0 sun.now moonstart.0 moon.now) zone }
+) -> Result<(), Refusal>
+    ensures { paper result ≡ judged_in (inputs leap.now sunstart.0 sun.now moonstart.0 moon.now) zone }
 {
     if !is_zone(zone) {
-        return Check::Refused(refusals::ZONE);
+        return Err(Refusal::Zone);
     }
     judge(leap, sunstart, sun, moonstart, moon)
 }

@@ -75,12 +75,10 @@ pub fn days_again(
     requires n_in_bounds { n ≤ length out.old }
     ensures { out.new ≡ tabulate (λ k. turn_day leap.now (series body start.0 coefs.now) zone (from + k)) n ++ drop n out.old }
 {
-    let mut i: usize = 0;
-    while i < n {
-        out[i] = day_again(
+    for (i, day) in out[..n].iter_mut().enumerate() {
+        *day = day_again(
             leap, body, start, coefs, zone, turns, from, i, low, high, known,
         );
-        i += 1;
     }
 }
 
@@ -90,11 +88,7 @@ fn thirteen(words: &[i64], at: usize) -> [i64; 13]
     ensures { result ≡ take 13 (drop at words.now) }
 {
     let mut days: [i64; 13] = [0; 13];
-    let mut i: usize = 0;
-    while i < 13 {
-        days[i] = words[at + i];
-        i += 1;
-    }
+    days.copy_from_slice(&words[at..at + 13]);
     days
 }
 
@@ -151,12 +145,10 @@ pub fn zhongqi_again(
     requires m_in_bounds_3 { 13 * m ≤ length out.old }
     ensures { out.new ≡ placed 0 (zhongqi_of leap.now (series Sun start.0 coefs.now) zone place m) out.old }
 {
-    let mut j: usize = 0;
-    while j < m {
+    for j in 0..m {
         let days = thirteen_again(
             leap, start, coefs, zone, suns, place, j, solstices, low, high, known,
         );
         put_thirteen(out, 13 * j, days);
-        j += 1;
     }
 }

@@ -2,7 +2,7 @@
 use Rattle.std.specs.Prelude.{◌≡◌, Bool, true, false, cond, List, [], ◌∷◌, ◌++◌, ℕ, zero, suc, ◌+◌, ◌*◌, ◌/◌, ◌≤◌, ◌<◌, ℤ, pos, ◌+ℤ◌, length, get_or, take, drop}
 use Rattle.whole.specs.Evaluated.{same_words}
 use Rattle.whole.specs.Lists.{placed}
-use Rattle.refusals.specs.Verdict.{Verdict, answered, refused, refusal, ◌then◌}
+use Rattle.refusals.specs.Verdict.{Verdict, answered, refused, ◌then◌}
 use Rattle.inputs.specs.Inputs.{Inputs}
 use Rattle.months.specs.declared.Sui.{Sui}
 use Rattle.months.specs.declared.SuiDays.{SuiDays}
@@ -12,20 +12,8 @@ use Rattle.almanac.specs.Fields.{times, numbers_in}
 use Rattle.almanac.specs.Layout.{month_fields}
 use Rattle.built.specs.Build.{suis_from, month_words}
 use Rattle.build.specs.theory.Put.{months_of, sui_months}
-use Rattle.kept_or_made.specs.declared.inner.years.PutAnswer.{PutAnswer}
-use Rattle.kept_or_made.specs.declared.inner.years.PutAnswer.TheVariants as put-answer
 use Rattle.kept_or_made.specs.declared.inner.years.Again.{Again}
-use Rattle.kept_or_made.specs.declared.inner.years.AgainAnswer.{AgainAnswer}
-use Rattle.kept_or_made.specs.declared.inner.years.AgainAnswer.TheVariants as again-answer
 use Rattle.rebuilt.specs.Rebuild.{days_words}
-
-abbrev pub paper_put : PutAnswer → Verdict ℕ
-paper_put (put-answer.Put count) = answered count
-paper_put (put-answer.Refused r) = refusal r
-
-abbrev pub paper_again : AgainAnswer → Verdict Again
-paper_again (again-answer.Again a) = answered a
-paper_again (again-answer.Refused r) = refusal r
 
 -- how many months, and their words
 abbrev pub again_count : Bool → ℕ → Verdict Sui → Verdict ℕ

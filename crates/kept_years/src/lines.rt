@@ -8,14 +8,7 @@ use text::inner::digit;
 fn is_among(year: i64, years: &[i64]) -> bool
     ensures { result ≡ is_among year years.now }
 {
-    let mut i = 0;
-    while i < years.len() {
-        if whole::inner::in_range(year, year, years[i]) {
-            return true;
-        }
-        i += 1;
-    }
-    false
+    years.contains(&year)
 }
 
 // A letter of `kept`, or of `made`.

@@ -2,13 +2,9 @@
 -- likewise. Input too long, not in whole words, too short, with words left over or with a negative count is 13. Assumes nothing: these are definitions.
 use Rattle.std.specs.Prelude.{List, ℕ, ◌+◌, ◌*◌, ◌-◌, ltb, leb, ℤ, pos, nat_abs, length, get_or, take, drop}
 use Rattle.std.specs.Int.Signed.{lt_z}
-use Rattle.refusals.specs.Verdict.{Verdict, answered, refuse_when, refusal, ◌before◌, ◌then◌}
+use Rattle.refusals.specs.Verdict.{Verdict, answered, refuse_when, ◌before◌, ◌then◌}
 use Rattle.inputs.specs.Inputs.{Inputs}
 use Rattle.layout.specs.declared.inner.Places.{Places}
-use Rattle.layout.specs.declared.inner.EndAnswer.{EndAnswer}
-use Rattle.layout.specs.declared.inner.EndAnswer.TheVariants as end-answer
-use Rattle.layout.specs.declared.inner.PlacesAnswer.{PlacesAnswer}
-use Rattle.layout.specs.declared.inner.PlacesAnswer.TheVariants as places-answer
 
 -- A section at `at` is a count, `extra` words, and `width` words for each one counted. Where it ends, if it is all there:
 unfoldable pub section_end : List ℤ → ℕ → ℕ → ℕ → Verdict ℕ
@@ -25,15 +21,6 @@ places ws =
     section_end ws sun 1 14 then λ moon.
     section_end ws moon 1 14 then λ end.
     refuse_when (ltb end (length ws)) 13 before answered (record { sun = sun; moon = moon })
-
--- what the answers say on paper
-abbrev pub paper_end : EndAnswer → Verdict ℕ
-paper_end (end-answer.At n) = answered n
-paper_end (end-answer.Refused r) = refusal r
-
-abbrev pub paper_places : PlacesAnswer → Verdict Places
-paper_places (places-answer.Found p) = answered p
-paper_places (places-answer.Refused r) = refusal r
 
 -- what the words between two places are
 abbrev pub words_from : List ℤ → ℕ → ℕ → List ℤ

@@ -1,6 +1,7 @@
 // The layout of the input's words: where its sections stand. Everything that does not fit is 13.
 ghost use Rattle.std.specs.Prelude.{◌≡◌, ◌≤◌, length};
-ghost use Rattle.layout.specs.Layout.{section_end, places, paper_end, paper_places};
+ghost use Rattle.refusals.specs.Verdict.{paper};
+ghost use Rattle.layout.specs.Layout.{section_end, places};
 
 use refusals::Refusal;
 
@@ -10,63 +11,41 @@ pub struct Places {
     pub moon: usize,
 }
 
-#[derive(Clone, Copy)]
-pub enum EndAnswer {
-    At(usize),
-    Refused(Refusal),
-}
-
-#[derive(Clone, Copy)]
-pub enum PlacesAnswer {
-    Found(Places),
-    Refused(Refusal),
-}
-
 // Where the section at `at` ends. The count is judged before it is multiplied.
-fn section_end(words: &[i64], at: usize, extra: usize, width: usize) -> EndAnswer
+fn section_end(words: &[i64], at: usize, extra: usize, width: usize) -> Result<usize, Refusal>
     requires words_len_bound { length words.now ≤ 300000 }
     requires extra_bound { extra ≤ 1 }
     requires le_width { (1 ≤ width) × (width ≤ 14) }
-    ensures { paper_end result ≡ section_end words.now at extra width }
+    ensures { paper result ≡ section_end words.now at extra width }
 {
-    let broken = EndAnswer::Refused(refusals::LAYOUT);
     if words.len() <= at {
-        return broken;
+        return Err(Refusal::Layout);
     }
     let counted = words[at];
     if counted < 0 {
-        return broken;
+        return Err(Refusal::Layout);
     }
     let k = whole::inner::count(counted);
     if words.len() < k {
-        return broken;
+        return Err(Refusal::Layout);
     }
     let end = at + 1 + extra + width * k;
     if words.len() < end {
-        return broken;
+        return Err(Refusal::Layout);
     }
-    EndAnswer::At(end)
+    Ok(end)
 }
 
 // Where the sections stand, if they are all there and nothing follows.
-pub fn find_places(words: &[i64]) -> PlacesAnswer
+pub fn find_places(words: &[i64]) -> Result<Places, Refusal>
     requires { length words.now ≤ 300000 }
-    ensures { paper_places result ≡ places words.now }
+    ensures { paper result ≡ places words.now }
 {
-    match section_end(words, 0, 0, 2) {
-        EndAnswer::Refused(r) => PlacesAnswer::Refused(r),
-        EndAnswer::At(sun) => match section_end(words, sun, 1, 14) {
-            EndAnswer::Refused(r) => PlacesAnswer::Refused(r),
-            EndAnswer::At(moon) => match section_end(words, moon, 1, 14) {
-                EndAnswer::Refused(r) => PlacesAnswer::Refused(r),
-                EndAnswer::At(end) => {
-                    if end < words.len() {
-                        PlacesAnswer::Refused(refusals::LAYOUT)
-                    } else {
-                        PlacesAnswer::Found(Places { sun, moon })
-                    }
-                }
-            },
-        },
+    let sun = section_end(words, 0, 0, 2)?;
+    let moon = section_end(words, sun, 1, 14)?;
+    let end = section_end(words, moon, 1, 14)?;
+    if end < words.len() {
+        return Err(Refusal::Layout);
     }
+    Ok(Places { sun, moon })
 }

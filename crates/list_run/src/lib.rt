@@ -22,6 +22,7 @@ fn line_room() -> [u8; 65536]
 
 // Prints the lines from `from` on that fit a buffer, and says how many; none when all is printed.
 fn print_from(rt: &impl Print, input: &[u8], from: usize) -> io::Result<usize> {
+    // Kept: fixed memory, no heap.
     let mut out = line_room();
     let part = listing::list_part(input, 480, from, &mut out);
     let bytes = part.bytes;
@@ -46,7 +47,9 @@ fn print_all(rt: &impl Print, input: &[u8]) -> io::Result<()> {
 }
 
 // Lists an input.
+// Kept: a room of its own size, and then its own printing; what is the same is `outside::read_full`.
 pub fn list_from<I: Read>(rt: &impl Print, input: &mut I) -> io::Result<()> {
+    // Kept: fixed memory, no heap.
     let mut bytes = input_room();
     let n = outside::read_full(input, &mut bytes)?;
     print_all(rt, &bytes[..n])

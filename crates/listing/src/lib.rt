@@ -6,6 +6,7 @@ ghost use Rattle.listed.specs.Listing.{listing};
 ghost use Rattle.listing.specs.Parts.{part_answer, part_held};
 
 use conversion::inner::is_zone;
+use refusals::Refusal;
 
 mod lines;
 mod parts;
@@ -30,15 +31,16 @@ pub fn list_part(input: &[u8], zone: i64, from: usize, room: &mut [u8]) -> Part
     ensures room_after { room.new ≡ part_held (listing input.now zone) from room.old }
 {
     if !is_zone(zone) {
-        return parts::put_refusal(15, from, room);
+        return parts::put_refusal(Refusal::Zone, from, room);
     }
     if 65536 < input.len() {
-        return parts::put_refusal(13, from, room);
+        return parts::put_refusal(Refusal::Layout, from, room);
     }
     if input.len() % 8 != 0 {
-        return parts::put_refusal(13, from, room);
+        return parts::put_refusal(Refusal::Layout, from, room);
     }
     let n = input.len() / 8;
+    // Kept: fixed memory, no heap.
     let mut words = zeros();
     words::inner::read_words(input, n, &mut words);
     parts::put_words(&words[..n], zone, from, room)

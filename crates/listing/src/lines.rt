@@ -31,6 +31,7 @@ fn letter_of(body: Body) -> u8
     }
 }
 
+// Kept: a number for each body in one line; a record of all such numbers would be made for one of its fields.
 fn circle_of(body: Body) -> i64
     ensures { result ≡ pos (numbers body).circle }
 {

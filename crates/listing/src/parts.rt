@@ -1,5 +1,6 @@
 // A part of the listing of an input: its judgement, and the lines from one on that fit the room.
 ghost use Rattle.std.specs.Prelude.{◌≡◌, [], ◌∷◌, ◌+◌, ◌<◌, ◌≤◌, length, get_or};
+ghost use Rattle.refusals.specs.Verdict.{refusal_number};
 ghost use Rattle.text.specs.Text.{refusal_line};
 ghost use Rattle.inputs.specs.Inputs.{inputs};
 ghost use Rattle.inputs.specs.Known.{Known};
@@ -14,8 +15,7 @@ ghost use Rattle.listing.specs.Parts.{part_answer, part_held};
 
 use crate::lines::Line;
 use crate::{Part, lines};
-use layout::inner::PlacesAnswer;
-use refusals::Check;
+use refusals::Refusal;
 use series::Body;
 use times::Second;
 
@@ -75,9 +75,8 @@ pub fn put_lines(
     let sunlowest = finder::inner::first_reached(Body::Sun, sunstart, sun);
     let moonlowest = finder::inner::first_reached(Body::Moon, moonstart, moon);
     let total = suns + moons;
-    let mut i = from;
     let mut at = 0;
-    while i < total {
+    for i in from..total {
         let line = line_at(
             leap, sunstart, sun, moonstart, moon, zone, sunlowest, moonlowest, suns, i,
         );
@@ -89,10 +88,9 @@ pub fn put_lines(
         }
         let moment = line.moment;
         at = text::inner::put_line(room, at, line.letter, line.index, moment);
-        i += 1;
     }
     Part {
-        lines: i - from,
+        lines: total.saturating_sub(from),
         bytes: at,
     }
 }
@@ -116,16 +114,16 @@ fn put_only(line: &[u8], from: usize, room: &mut [u8]) -> Part
 }
 
 // A part of what is printed for a refusal.
-pub fn put_refusal(number: u8, from: usize, room: &mut [u8]) -> Part
-    ensures value { result ≡ part_answer (refusal_line number ∷ []) from (length room.old) }
-    ensures room_after { room.new ≡ part_held (refusal_line number ∷ []) from room.old }
+pub fn put_refusal(refusal: Refusal, from: usize, room: &mut [u8]) -> Part
+    ensures value { result ≡ part_answer (refusal_line (refusal_number refusal) ∷ []) from (length room.old) }
+    ensures room_after { room.new ≡ part_held (refusal_line (refusal_number refusal) ∷ []) from room.old }
 {
-    let n = number as u64;
-    if n < 10 {
-        let line = text::inner::short_refusal(n);
+    let number = refusal.number() as u64;
+    if number < 10 {
+        let line = text::inner::short_refusal(number);
         return put_only(&line, from, room);
     }
-    let line = text::inner::long_refusal(n);
+    let line = text::inner::long_refusal(number);
     put_only(&line, from, room)
 }
 
@@ -144,11 +142,10 @@ pub fn put_input(
     ensures value { result ≡ part_answer (printed (listed (inputs leap.now sunstart.0 sun.now moonstart.0 moon.now) zone)) from (length room.old) }
     ensures room_after { room.new ≡ part_held (printed (listed (inputs leap.now sunstart.0 sun.now moonstart.0 moon.now) zone)) from room.old }
 {
-    let check = inputs::judge(leap, sunstart, sun, moonstart, moon);
-    if let Check::Refused(r) = check {
-        return put_refusal(r.number, from, room);
+    match inputs::judge(leap, sunstart, sun, moonstart, moon) {
+        Err(refusal) => put_refusal(refusal, from, room),
+        Ok(()) => put_lines(leap, sunstart, sun, moonstart, moon, zone, from, room),
     }
-    put_lines(leap, sunstart, sun, moonstart, moon, zone, from, room)
 }
 
 // A part of what is printed for words whose sections stand at these places.
@@ -190,7 +187,7 @@ pub fn put_words(words: &[i64], zone: i64, from: usize, room: &mut [u8]) -> Part
     ensures room_after { room.new ≡ part_held (printed (listed_words words.now zone)) from room.old }
 {
     match layout::inner::find_places(words) {
-        PlacesAnswer::Refused(r) => put_refusal(r.number, from, room),
-        PlacesAnswer::Found(p) => put_sections(words, p.sun, p.moon, zone, from, room),
+        Err(refusal) => put_refusal(refusal, from, room),
+        Ok(p) => put_sections(words, p.sun, p.moon, zone, from, room),
     }
 }

@@ -65,14 +65,12 @@ fn segment_for(coefs: &[i64], target: i64) -> usize
     ensures { result < segments coefs.now }
 {
     let mut k = hinted(coefs, target);
-    let mut left: usize = 8;
-    while left > 0 {
+    for _ in 0..8 {
         let next = nearer(coefs, k, target);
         if next == k {
             return k;
         }
         k = next;
-        left -= 1;
     }
     k
 }

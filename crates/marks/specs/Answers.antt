@@ -1,27 +1,15 @@
 -- What the two entry points answer, on paper, and what the lent list holds afterwards (document 01, "Marks" and "Refusal numbers"): 2 to 5 for the series, then
 -- 12 where the lent room has fewer places than the marks fill. A place is two words, index and second. Assumes nothing: these are definitions.
 use Rattle.std.specs.Prelude.{List, ◌≡◌, ℕ, ◌*◌, ◌≤◌, ltb, length, ℤ, pos}
-use Rattle.refusals.specs.Verdict.{Verdict, answered, refusal, refuse_when, ◌before◌}
+use Rattle.refusals.specs.Verdict.{Verdict, answered, refuse_when, ◌before◌}
 use Rattle.series.specs.Series.{Series}
 use Rattle.series.specs.Acceptance.{Accepted, series_judged}
-use Rattle.marks.specs.declared.CountAnswer.{CountAnswer}
-use Rattle.marks.specs.declared.CountAnswer.TheVariants as count-answer
-use Rattle.marks.specs.declared.ListAnswer.{ListAnswer}
-use Rattle.marks.specs.declared.ListAnswer.TheVariants as list-answer
 use Rattle.marks.specs.declared.ListedMark.{ListedMark}
 use Rattle.marks.specs.Marks.{Mark}
 use Rattle.marks.specs.Listed.{listed_marks}
 use Rattle.marks.specs.Words.{mark_words}
 
 -- the number and values of each case
-abbrev pub paper_count : CountAnswer → Verdict ℕ
-paper_count (count-answer.Marks n) = answered n
-paper_count (count-answer.Refused r) = refusal r
-
-abbrev pub paper_list : ListAnswer → Verdict ℕ
-paper_list (list-answer.Marks n) = answered n
-paper_list (list-answer.Refused r) = refusal r
-
 module _ (s : Series) where
   -- how many marks the series lists
   abbrev pub counted_marks : Verdict ℕ

@@ -2,22 +2,7 @@
 // Nothing here runs: the functions are those of `finder` and `locator`.
 #![tactic(auto)]
 
-use refusals::Refusal;
 use times::Second;
-
-// How many marks a series lists, or why it is refused.
-#[derive(Clone, Copy)]
-pub enum CountAnswer {
-    Marks(usize),
-    Refused(Refusal),
-}
-
-// How many marks were listed, or why nothing was.
-#[derive(Clone, Copy)]
-pub enum ListAnswer {
-    Marks(usize),
-    Refused(Refusal),
-}
 
 // A listed mark: its index and its second.
 #[derive(Clone, Copy)]

@@ -4,7 +4,6 @@
 
 ghost use Rattle.std.specs.Prelude.{◌≡◌, ◌<◌, length};
 
-use marks::ListAnswer;
 use series::Body;
 use std::io;
 use times::Second;
@@ -33,13 +32,10 @@ fn mixed(sum: u64, word: i64) -> u64
 // Of the first n marks.
 fn checksum(words: &[i64], n: usize) -> u64 {
     let mut sum: u64 = 0;
-    let mut i = 0;
-    while i < words.len() {
-        if n <= i / 2 {
-            return sum;
+    for mark in words.chunks(2).take(n) {
+        for word in mark {
+            sum = mixed(sum, *word);
         }
-        sum = mixed(sum, words[i]);
-        i += 1;
     }
     sum
 }
@@ -48,14 +44,11 @@ fn report(rt: &impl Print, letter: &str, body: Body, start: i64, coefs: &[i64]) 
     let mut out = zeros();
     print!(rt; "{letter} ")?;
     match finder::list_marks(body, Second(start), coefs, &mut out) {
-        ListAnswer::Marks(n) => {
+        Ok(n) => {
             let sum = checksum(&out, n);
             println!(rt; "{n} marks, checksum {sum}")
         }
-        ListAnswer::Refused(r) => {
-            let number = r.number;
-            println!(rt; "refused {number}")
-        }
+        Err(r) => println!(rt; "refused {}", r.number()),
     }
 }
 

@@ -1,84 +1,42 @@
 // For crates that find the days of a sui elsewhere, or look for them in lists of their own.
 ghost use Rattle.std.specs.Prelude.{◌≡◌, ◌-◌, ◌<◌, length};
-ghost use Rattle.refusals.specs.Verdict.{refusal};
+ghost use Rattle.refusals.specs.Verdict.{paper};
 ghost use Rattle.whole.specs.Ranges.{Within, All};
 ghost use Rattle.months.specs.Handles.{month_of};
 ghost use Rattle.months.specs.Months.{not_after, is_missing, twelve_or_thirteen, days_of, IsSuiDays, sui_of};
-ghost use Rattle.months.specs.Answers.{days_answer, sui_answer};
 
-use super::finding::{counts, fourteen, thirteen};
+use super::finding::{fourteen, thirteen};
 use super::numbering::{first_bad_month, handle, leap_mark, leap_month, number_at, numbered};
-use months::{DaysAnswer, Month, Sui, SuiAnswer, SuiDays};
-use refusals::{Check, Refusal};
+use months::{Month, Sui, SuiDays};
+use refusals::Refusal;
 use whole::inner::subtract;
-
-// No days of a sui, for this reason.
-pub fn no_days(reason: Refusal) -> DaysAnswer
-    ensures { result ≡ days_answer (refusal reason) }
-{
-    DaysAnswer {
-        check: Check::Refused(reason),
-        days: SuiDays {
-            months: 0,
-            moons: [0; 14],
-            zhongqi: [0; 13],
-        },
-    }
-}
-
-// No sui, for this reason.
-pub fn no_sui(reason: Refusal) -> SuiAnswer
-    ensures { result ≡ sui_answer (refusal reason) }
-{
-    let none = Month {
-        handle: 0,
-        first: 0,
-        length: 0,
-    };
-    SuiAnswer {
-        check: Check::Refused(reason),
-        sui: Sui {
-            count: 0,
-            months: [none; 13],
-        },
-    }
-}
 
 // How many of the days are not after `day`.
 pub fn not_after(days: &[i64], day: i64) -> usize
     ensures { result ≡ not_after day days.now }
 {
-    let mut n: usize = 0;
-    let mut i: usize = 0;
-    while i < days.len() {
-        n += counts(days[i], day);
-        i += 1;
-    }
-    n
+    days.iter().filter(|d| **d <= day).count()
 }
 
 // The days of the sui that these new-moon days and 13 zhongqi days hold.
-pub fn days_of(moons: &[i64], zhongqi: &[i64]) -> DaysAnswer
+pub fn days_of(moons: &[i64], zhongqi: &[i64]) -> Result<SuiDays, Refusal>
     requires { length zhongqi.now ≡ 13 }
-    ensures { result ≡ days_answer (days_of moons.now zhongqi.now) }
+    ensures { paper result ≡ days_of moons.now zhongqi.now }
 {
     let by_first = not_after(moons, zhongqi[0]);
     let by_second = not_after(moons, zhongqi[12]);
     if moon_missing(by_first, by_second, moons.len()) {
-        return no_days(refusals::NO_SUI);
+        return Err(Refusal::NoSui);
     }
     let n = month_count(by_first, by_second);
     if !twelve_or_thirteen(n) {
-        return no_days(refusals::MONTH_COUNT);
+        return Err(Refusal::MonthCount);
     }
-    DaysAnswer {
-        check: Check::Accepted,
-        days: SuiDays {
-            months: n,
-            moons: fourteen(moons, by_first - 1, n + 1),
-            zhongqi: thirteen(zhongqi),
-        },
-    }
+    Ok(SuiDays {
+        months: n,
+        moons: fourteen(moons, by_first - 1, n + 1),
+        zhongqi: thirteen(zhongqi),
+    })
 }
 
 // The month at a place, from its first day to the day before the next month's. Every month record is made here.
@@ -97,20 +55,17 @@ pub fn month_of(year: i64, leap: usize, place: usize, first: i64, next: i64) -> 
 }
 
 // The sui of these days.
-pub fn sui_of(year: i64, days: SuiDays) -> SuiAnswer
+pub fn sui_of(year: i64, days: SuiDays) -> Result<Sui, Refusal>
     requires within { Within 2500 year }
     requires sui_days { IsSuiDays days }
     requires all { All 1000000 days.moons }
-    ensures { result ≡ sui_answer (sui_of year days) }
+    ensures { paper result ≡ sui_of year days }
 {
     let months = days.months;
     if first_bad_month(days) < months {
-        return no_sui(refusals::MONTH_LENGTH);
+        return Err(Refusal::MonthLength);
     }
-    SuiAnswer {
-        check: Check::Accepted,
-        sui: numbered(year, days, leap_month(days)),
-    }
+    Ok(numbered(year, days, leap_month(days)))
 }
 
 // How many more new moons are not after the second solstice than not after the first.

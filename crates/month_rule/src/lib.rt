@@ -3,10 +3,10 @@
 
 ghost use Rattle.std.specs.Prelude.{◌≡◌};
 ghost use Rattle.months.specs.Limits.{months_of};
-ghost use Rattle.months.specs.Answers.{sui_answer};
+ghost use Rattle.refusals.specs.Verdict.{paper};
 
-use months::SuiAnswer;
-use refusals::Check;
+use months::Sui;
+use refusals::Refusal;
 
 mod finding;
 pub mod inner;
@@ -14,16 +14,12 @@ mod limits;
 mod numbering;
 
 // The months of the sui that these new-moon days and zhongqi days hold. The year serves the handles only.
-pub fn months_of(year: i64, moons: &[i64], zhongqi: &[i64]) -> SuiAnswer
-    ensures { result ≡ sui_answer (months_of year moons.now zhongqi.now) }
+pub fn months_of(year: i64, moons: &[i64], zhongqi: &[i64]) -> Result<Sui, Refusal>
+    ensures { paper result ≡ months_of year moons.now zhongqi.now }
 {
     if !limits::lists_kept(year, moons, zhongqi) {
-        return inner::no_sui(refusals::NO_SUI);
+        return Err(Refusal::NoSui);
     }
-    let found = inner::days_of(moons, zhongqi);
-    let check = found.check;
-    if let Check::Refused(r) = check {
-        return inner::no_sui(r);
-    }
-    inner::sui_of(year, found.days)
+    let days = inner::days_of(moons, zhongqi)?;
+    inner::sui_of(year, days)
 }

@@ -16,14 +16,7 @@ pub fn year_in_range(year: i64) -> bool
 pub fn rising(days: &[i64]) -> bool
     ensures { result ≡ rising days.now }
 {
-    let mut i: usize = 0;
-    while i + 1 < days.len() {
-        if days[i + 1] <= days[i] {
-            return false;
-        }
-        i += 1;
-    }
-    true
+    days.is_sorted_by(|a, b| *a < *b)
 }
 
 // Within 200,000 of day 0.
@@ -39,14 +32,7 @@ pub fn day_in_range(day: i64) -> bool
 pub fn in_range(days: &[i64]) -> bool
     ensures { result ≡ in_range days.now }
 {
-    let mut i: usize = 0;
-    while i < days.len() {
-        if !day_in_range(days[i]) {
-            return false;
-        }
-        i += 1;
-    }
-    true
+    days.iter().all(|day| day_in_range(*day))
 }
 
 pub fn days_kept(days: &[i64]) -> bool

@@ -1,9 +1,8 @@
 // The parts of numbering the months of a sui: numbers and handles, zhongqi, lengths.
 ghost use Rattle.std.specs.Prelude.{◌≡◌, not, ◌+◌, ◌<◌, ◌≤◌};
 ghost use Rattle.whole.specs.Ranges.{Within, All};
-ghost use Rattle.whole.specs.Counted.{one};
 ghost use Rattle.months.specs.Handles.{ordinal, number_at, leap_mark, handle, month_of};
-ghost use Rattle.months.specs.Months.{IsSuiDays, is_within, zhongqi_in, without, first_without, leap_month, good_length, bad_month, first_bad_month, month_first, numbered};
+ghost use Rattle.months.specs.Months.{IsSuiDays, zhongqi_in, without, first_without, leap_month, good_length, bad_month, first_bad_month, month_first, numbered};
 
 use super::inner::month_of;
 use months::{Month, Sui, SuiDays};
@@ -48,30 +47,14 @@ pub fn handle(year: i64, number: usize, mark: usize) -> i64
     add(multiply(32, year), signed(2 * number + mark))
 }
 
-// Whether a day counts: it lies from `first` to the day before `next`.
-pub fn counts_within(first: i64, next: i64, day: i64) -> usize
-    ensures { result ≡ one (is_within first next day) }
-{
-    if day < first {
-        return 0;
-    }
-    if day < next {
-        return 1;
-    }
-    0
-}
-
 // How many of the zhongqi belong to the month from `first` to the day before `next`.
 pub fn zhongqi_in(first: i64, next: i64, zhongqi: [i64; 13]) -> usize
     ensures { result ≡ zhongqi_in first next zhongqi }
 {
-    let mut n: usize = 0;
-    let mut i: usize = 0;
-    while i < 13 {
-        n += counts_within(first, next, zhongqi[i]);
-        i += 1;
-    }
-    n
+    zhongqi
+        .iter()
+        .filter(|day| first <= **day && **day < next)
+        .count()
 }
 
 // Whether the month at a place has no zhongqi.
@@ -91,6 +74,7 @@ pub fn first_without(days: SuiDays) -> usize
     ensures { result ≡ first_without days }
 {
     let mut i: usize = 0;
+    // Kept: the search has no end to count up to; a `find` would need an answer for where it finds none, which no call gives.
     while !without(days, i) {
         i += 1;
     }
@@ -98,6 +82,7 @@ pub fn first_without(days: SuiDays) -> usize
 }
 
 // The place of the leap month; the number of months where there is none.
+// Kept: a number where there is none, since the definition and the theorem `leap_month_stands` say that number.
 pub fn leap_month(days: SuiDays) -> usize
     requires { IsSuiDays days }
     ensures { result ≡ leap_month days }
@@ -131,20 +116,16 @@ pub fn bad_month(days: SuiDays, place: usize) -> bool
 }
 
 // The place of the first month that is not 29 or 30 days long; the number of months where there is none.
+// Kept: a number where there is none, since the definition says that number.
 pub fn first_bad_month(days: SuiDays) -> usize
     requires months_bound { days.months ≤ 13 }
     requires all { All 1000000 days.moons }
     ensures { result ≡ first_bad_month days }
 {
     let months = days.months;
-    let mut i: usize = 0;
-    while i < months {
-        if bad_month(days, i) {
-            return i;
-        }
-        i += 1;
-    }
-    i
+    (0..months)
+        .find(|place| bad_month(days, *place))
+        .unwrap_or(months)
 }
 
 // The month at a place.
@@ -173,12 +154,10 @@ pub fn numbered(year: i64, days: SuiDays, leap: usize) -> Sui
         length: 0,
     };
     let count = days.months;
+    // Kept: fixed memory, no heap.
     let mut months = [none; 13];
-    let mut i: usize = 0;
-    while i < count {
-        let month = month_at(year, days, leap, i);
-        months[i] = month;
-        i += 1;
+    for (place, month) in months[..count].iter_mut().enumerate() {
+        *month = month_at(year, days, leap, place);
     }
     Sui { count, months }
 }

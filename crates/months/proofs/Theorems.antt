@@ -1,28 +1,28 @@
 -- What is proved of the month rule, over its definitions: handles tell year, number and leap mark, and differ; month 11 has a zhongqi, and of thirteen
 -- months one has none; the months meet; one result. Assumes nothing but what a statement says itself.
-use Rattle.std.specs.Prelude.{◌≡◌, refl, true, false, not, List, ℕ, ◌+◌, ◌-◌, ◌*◌, ◌/◌, ◌%◌, ◌≤◌, ◌<◌, ℤ, pos, ◌+ℤ◌, ◌*ℤ◌, length, get_or, ◌≤ℤ◌, ◌<ℤ◌}
+use Rattle.std.specs.Prelude.{◌≡◌, refl, true, false, not, List, ℕ, ◌+◌, ◌-◌, ◌*◌, ◌/◌, ◌%◌, ◌≤◌, ◌<◌, ℤ, pos, ◌+ℤ◌, ◌*ℤ◌, length, get_or, ◌≤ℤ◌, ◌<ℤ◌, Result}
 use Rattle.std.proofs.Common.{sym, ap, ◌∙◌, arith, ne_eqb}
 use Rattle.std.proofs.lemmas.Bool.{not-false}
 use Rattle.whole.specs.Floor.{floor_div, floor_mod}
 use Rattle.whole.proofs.Floor.{floor_div_unique, floor_mod_unique}
 use Rattle.whole.specs.Laws.{*_comm}
 use Rattle.whole.specs.Solver.{yes_lt, no_lt}
-use Rattle.refusals.specs.Verdict.{Verdict, answered, refused, test_answered, one_content}
+use Rattle.refusals.specs.Verdict.{answered, test_answered, one_result, results_apart, paper}
 use Rattle.months.specs.declared.SuiDays.{SuiDays}
 use Rattle.months.specs.declared.Sui.{Sui}
-use Rattle.months.specs.declared.SuiAnswer.{SuiAnswer}
 use Rattle.months.specs.Handles.{number_at, leap_mark, handle, handle_at}
 use Rattle.months.specs.Months.{not_after, last_not_after, first_solstice, second_solstice, by_first, by_second, month_count, days_of, month_first, IsSuiDays, zhongqi_in, zhongqi_of, without, first_without, leap_month, sui_in}
 use Rattle.months.specs.Limits.{rising, lists_kept, months_of}
-use Rattle.months.specs.Answers.{sui_answer, paper_sui}
 use Rattle.months.proofs.theory.Numbering.{before_leap, not_at_leap, number_small, mark_small, places_differ}
 use Rattle.months.proofs.theory.Listed.{at_most_thirteen, zhongqi_in_turn, within_here}
 use Rattle.months.proofs.theory.Kept.{kept}
 use Rattle.months.proofs.theory.Rising.{first_are_by, later_are_after, last_is_by, in_order, none_later}
 use Rattle.months.proofs.theory.Suis.{IsSui, month, sui_count_lem, handle_is, first_is, end_is, days_of_sui}
 use Rattle.months.proofs.theory.Days.{found_first, found_months, found_listed, found_count, found_twelve, found_zhongqi}
+use Rattle.months.proofs.theory.Answered.{said}
 use Rattle.months.proofs.theory.Leap.{leap_by_twelve, leap_not_first}
 use Rattle.months.proofs.theory.Thirteen.{one_without}
+use Rattle.refusals.specs.declared.Refusal.{Refusal}
 
 -- ---- handles
 
@@ -167,11 +167,10 @@ months_meet year moons zhongqi {sui} rule =
 
 -- ---- one result
 
--- the answer says on paper what the rule says
-pub paper_sui_lem : (v : Verdict Sui) → paper_sui (sui_answer v) ≡ v
-paper_sui_lem (answered sui) = refl
-paper_sui_lem (refused number segment) = refl
+-- the rule refuses by a number of a refusal, so that an answer can say it
+pub paper_sui_lem : (year : ℤ) (moons zhongqi : List ℤ) → (r : Result Sui Refusal) × (paper r ≡ months_of year moons zhongqi)
+paper_sui_lem year moons zhongqi = said year moons zhongqi
 
--- any two answers that `months_of` may give are the same, in every field
-pub months_of_one_result : (year : ℤ) (moons zhongqi : List ℤ) (a b : SuiAnswer) → a ≡ sui_answer (months_of year moons zhongqi) → b ≡ sui_answer (months_of year moons zhongqi) → a ≡ b
-months_of_one_result year moons zhongqi a b p q = one_content a b p q
+-- any two answers that `months_of` may give are the same
+pub months_of_one_result : (year : ℤ) (moons zhongqi : List ℤ) (a b : Result Sui Refusal) → paper a ≡ months_of year moons zhongqi → paper b ≡ months_of year moons zhongqi → a ≡ b
+months_of_one_result year moons zhongqi a b p q = one_result paper results_apart a b p q

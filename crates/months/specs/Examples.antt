@@ -10,8 +10,7 @@ use Rattle.refusals.specs.Evaluated.{is_accepted, is_refused}
 use Rattle.months.specs.declared.Month.{Month}
 use Rattle.months.specs.declared.SuiDays.{SuiDays}
 use Rattle.months.specs.declared.Sui.{Sui}
-use Rattle.months.specs.declared.SuiAnswer.{SuiAnswer}
-use Rattle.months.specs.Answers.{sui_answer, paper_sui}
+use Rattle.months.specs.Answers.{no_sui}
 use Rattle.months.specs.Handles.{number_at, leap_mark, handle, handle_at, month_of}
 use Rattle.months.specs.Months.{not_after, last_not_after, by_first, by_second, is_missing, moon_missing, month_count, twelve_or_thirteen, days_found, days_of, month_first, second_solstice, month_length, is_within, zhongqi_in, zhongqi_of, without, first_without, leap_month, month_at, numbered, good_length, bad_month, first_bad_month, lengths_judged, sui_of, sui_in}
 use Rattle.months.specs.Limits.{year_in_range, rising, day_in_range, in_range, days_kept, lists_kept, months_of}
@@ -59,10 +58,6 @@ zeros = record { handle = pos 0; first = pos 0; length = pos 0 }
 abbrev pub is_sui : Verdict Sui → List Month → Bool
 is_sui (answered sui) months = eqb sui.count (length months) && same_months sui.months (months ++ replicate (13 - length months) zeros)
 is_sui (refused number segment) months = false
-
--- a refusal by this number, and nothing beside it
-abbrev is_refusal : SuiAnswer → ℕ → Bool
-is_refusal r number = is_refused (paper_sui r) number && (eqb r.sui.count 0 && same_months r.sui.months (replicate 13 zeros))
 
 -- ---- document 01's lists
 abbrev pub moons : List ℕ
@@ -175,9 +170,10 @@ examples =
     ∷ is_refused (rule (0 ∷ []) (every 1 1 13)) 8
     ∷ is_refused (months_of (pos 1699) (days moons) (days (every 26 20 13))) 8
     ∷ is_refused (rule (on_from 0 (30 ∷ 28 ∷ drop 2 lengths)) (every 26 20 13)) 9
-    -- what a refusal holds
-    ∷ is_refusal (sui_answer (rule [] zhongqi)) 8
-    ∷ is_refusal (sui_answer (rule moons (every 1 1 13))) 9
+    -- no new moon, and no month; what stands where there is no sui
+    ∷ is_refused (rule [] zhongqi) 8
+    ∷ is_refused (rule moons (every 1 1 13)) 9
+    ∷ is_sui (answered no_sui) []
     ∷ []
 
 pub examples_hold : T (all examples)

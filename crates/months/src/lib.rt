@@ -2,8 +2,6 @@
 // Nothing here knows of series, instants or dates, and nothing runs: the functions are those of `month_rule`.
 #![tactic(auto)]
 
-use refusals::Check;
-
 // A month: its handle, its first day, and how many days it has.
 #[derive(Clone, Copy)]
 pub struct Month {
@@ -17,6 +15,7 @@ pub struct Month {
 #[derive(Clone, Copy)]
 pub struct SuiDays {
     pub months: usize,
+    // Kept: fixed memory, no heap, so the count stands beside.
     pub moons: [i64; 14],
     pub zhongqi: [i64; 13],
 }
@@ -25,18 +24,6 @@ pub struct SuiDays {
 #[derive(Clone, Copy)]
 pub struct Sui {
     pub count: usize,
+    // Kept: fixed memory, no heap, so the count stands beside.
     pub months: [Month; 13],
-}
-
-// What was found, or why there is none; refused, the rest is zeros.
-#[derive(Clone, Copy)]
-pub struct DaysAnswer {
-    pub check: Check,
-    pub days: SuiDays,
-}
-
-#[derive(Clone, Copy)]
-pub struct SuiAnswer {
-    pub check: Check,
-    pub sui: Sui,
 }

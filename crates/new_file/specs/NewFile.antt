@@ -1,7 +1,7 @@
 -- The new file and the listed years, case by case: both are written where both have room, else nothing. Assumes nothing.
 use Rattle.std.proofs.Math.Path.{◌≡◌}
 use Rattle.std.specs.Prelude.{refl, Bool, true, false, List, ◌++◌, ℕ, ◌≤◌, ◌<◌, ltb, ℤ, drop}
-use Rattle.std.proofs.Common.{sym, ap, ◌∙◌, arith}
+use Rattle.std.proofs.Common.{sym, ap, ◌∙◌}
 use borrow.Author.Tests.{lt-ltb, le-ltb}
 use Rattle.std.proofs.Math.ListN.{length}
 use Rattle.refusals.specs.Verdict.{Verdict, answered, refused, refuse_when, answers_apart, answer_or_refusal, ◌before◌}
@@ -11,15 +11,6 @@ use Rattle.almanac.specs.Layout.{bytes_of}
 use Rattle.almanac.specs.Answers.{bytes_into, bytes_counted}
 use Rattle.rebuilt.specs.declared.Rebuilt.{Rebuilt}
 use Rattle.rebuilt.specs.Rebuild.{NewFile, new_file_by, counted, new_bytes, kept_years}
-
--- how many of the listed years are written, by what is said of the bytes
-abbrev pub years_written : {A : Type 0} → Verdict A → ℕ → ℕ
-years_written (answered a) listed = listed
-years_written (refused number segment) listed = 0
-
-pub written_few : {A : Type 0} (v : Verdict A) (listed : ℕ) → years_written v listed ≤ listed
-written_few (answered a) listed = omega arith
-written_few (refused number segment) listed = omega arith
 
 -- room for the bytes is all that a lawful content can lack
 pub bytes_or_12 : (c : Content) (room : ℕ) {number segment : ℕ} → bytes_into c room ≡ refused number segment → ◌≡◌ {A = Verdict (List ℕ)} (refused number segment) (refused 12 0)

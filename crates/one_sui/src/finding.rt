@@ -1,5 +1,6 @@
 // The parts of finding the days of a sui: its solstices, zhongqi and new moons, each located by index.
 ghost use Rattle.std.specs.Prelude.{◌≡◌, ◌++◌, ◌+◌, ◌-◌, ◌≤◌, ◌<◌, pos, ◌+ℤ◌, ◌-ℤ◌, replicate, ◌≤ℤ◌, ◌<ℤ◌};
+ghost use Rattle.refusals.specs.Verdict.{paper};
 ghost use Rattle.whole.specs.Ranges.{Within};
 ghost use Rattle.whole.specs.Tabulated.{tabulate};
 ghost use Rattle.series.specs.declared.Body.TheVariants.{Sun, Moon};
@@ -7,16 +8,15 @@ ghost use Rattle.series.specs.Series.{series};
 ghost use Rattle.marks.specs.Listed.{first_reached, last_reached};
 ghost use Rattle.inputs.specs.Known.{Ready};
 ghost use Rattle.months.specs.Months.{days_of};
-ghost use Rattle.months.specs.Answers.{days_answer};
 ghost use Rattle.turns.specs.Listed.{turn_day, turn_days, turns_by};
 ghost use Rattle.sui.specs.theory.Solstices.{eve};
 ghost use Rattle.sui.specs.theory.Found.{one_in_each, zhongqi_from};
 ghost use Rattle.turns.specs.Searched.{Searched};
 
 use super::inner::{eve, zhongqi_day};
-use month_rule::inner::{month_count, moon_missing, no_days, twelve_or_thirteen};
-use months::{DaysAnswer, SuiDays};
-use refusals::Check;
+use month_rule::inner::{month_count, moon_missing, twelve_or_thirteen};
+use months::SuiDays;
+use refusals::Refusal;
 use series::Body;
 use times::{Day, Second};
 use turns::inner::{TurnList, day_of_turn, one_more, turns_by, turns_of};
@@ -60,11 +60,10 @@ pub fn zhongqi_days(leap: &[i64], start: Second, coefs: &[i64], zone: i64, index
     requires pos_bound { (index +ℤ pos 24) ≤ℤ last_reached (series Sun start.0 coefs.now) }
     ensures { result ≡ zhongqi_from leap.now (series Sun start.0 coefs.now) zone index }
 {
+    // Kept: fixed memory, no heap.
     let mut days: [i64; 13] = [0; 13];
-    let mut i: usize = 0;
-    while i < 13 {
-        days[i] = zhongqi_day(leap, start, coefs, zone, index, i);
-        i += 1;
+    for (i, day) in days.iter_mut().enumerate() {
+        *day = zhongqi_day(leap, start, coefs, zone, index, i);
     }
     days
 }
@@ -84,11 +83,10 @@ fn moon_days(
     requires n_bound_2 { n ≤ 14 }
     ensures { result ≡ tabulate (λ k. turn_day leap.now (series Moon start.0 coefs.now) zone (from + k)) n ++ replicate (14 - n) (pos 0) }
 {
+    // Kept: fixed memory, no heap.
     let mut days: [i64; 14] = [0; 14];
-    let mut i: usize = 0;
-    while i < n {
-        days[i] = number_of(day_of_turn(leap, Body::Moon, start, coefs, zone, turns, from + i));
-        i += 1;
+    for (i, day) in days[..n].iter_mut().enumerate() {
+        *day = number_of(day_of_turn(leap, Body::Moon, start, coefs, zone, turns, from + i));
     }
     days
 }
@@ -100,10 +98,10 @@ pub fn days_from(
     coefs: &[i64],
     zone: i64,
     zhongqi: [i64; 13],
-) -> DaysAnswer
+) -> Result<SuiDays, Refusal>
     requires ready { Ready leap.now (series Moon start.0 coefs.now) }
     requires within { Within 1000 zone }
-    ensures { result ≡ days_answer (days_of (turn_days leap.now (series Moon start.0 coefs.now) zone) zhongqi) }
+    ensures { paper result ≡ days_of (turn_days leap.now (series Moon start.0 coefs.now) zone) zhongqi }
 {
     let turns = turns_of(Body::Moon, start, coefs);
     let first = Day(zhongqi[0]);
@@ -111,18 +109,15 @@ pub fn days_from(
     let second = Day(zhongqi[12]);
     let by_second = turns_by(leap, Body::Moon, start, coefs, zone, turns, second);
     if moon_missing(by_first, by_second, turns.count) {
-        return no_days(refusals::NO_SUI);
+        return Err(Refusal::NoSui);
     }
     let n = month_count(by_first, by_second);
     if !twelve_or_thirteen(n) {
-        return no_days(refusals::MONTH_COUNT);
+        return Err(Refusal::MonthCount);
     }
-    DaysAnswer {
-        check: Check::Accepted,
-        days: SuiDays {
-            months: n,
-            moons: moon_days(leap, start, coefs, zone, turns, by_first - 1, n + 1),
-            zhongqi,
-        },
-    }
+    Ok(SuiDays {
+        months: n,
+        moons: moon_days(leap, start, coefs, zone, turns, by_first - 1, n + 1),
+        zhongqi,
+    })
 }

@@ -1,19 +1,19 @@
 // For builds: the days of one sui of accepted inputs. The zone is in minutes.
 ghost use Rattle.std.specs.Prelude.{◌≡◌, ◌*◌, ◌<◌, pos, ◌+ℤ◌, ◌≤ℤ◌, ◌<ℤ◌};
+ghost use Rattle.refusals.specs.Verdict.{paper};
 ghost use Rattle.whole.specs.Ranges.{Within};
 ghost use Rattle.series.specs.declared.Body.TheVariants.{Sun};
 ghost use Rattle.series.specs.Series.{series};
 ghost use Rattle.marks.specs.Listed.{first_reached, last_reached};
 ghost use Rattle.inputs.specs.Inputs.{inputs, day_of_mark};
 ghost use Rattle.inputs.specs.Known.{Known, Ready};
-ghost use Rattle.months.specs.Answers.{days_answer};
 ghost use Rattle.sui.specs.Sui.{sui_days};
 ghost use Rattle.sui.specs.theory.Solstices.{eve};
 
 use super::finding::{days_from, number_of, one_in_each, zhongqi_days};
 use dates::Date;
-use month_rule::inner::no_days;
-use months::DaysAnswer;
+use months::SuiDays;
+use refusals::Refusal;
 use series::Body;
 use times::{Day, Second};
 use turns::inner::{turn_index, turns_by, turns_of};
@@ -62,19 +62,19 @@ pub fn days_in(
     moon: &[i64],
     zone: i64,
     year: i64,
-) -> DaysAnswer
+) -> Result<SuiDays, Refusal>
     requires known { Known (inputs leap.now sunstart.0 sun.now moonstart.0 moon.now) }
     requires within { Within 1000 zone }
-    ensures { result ≡ days_answer (sui_days (inputs leap.now sunstart.0 sun.now moonstart.0 moon.now) zone year) }
+    ensures { paper result ≡ sui_days (inputs leap.now sunstart.0 sun.now moonstart.0 moon.now) zone year }
 {
     if !in_range(1700, 2500, year) {
-        return no_days(refusals::NO_SUI);
+        return Err(Refusal::NoSui);
     }
     let turns = turns_of(Body::Sun, sunstart, sun);
     let first = eve(subtract(year, 1));
     let before = turns_by(leap, Body::Sun, sunstart, sun, zone, turns, first);
     if !one_in_each(leap, sunstart, sun, zone, turns, before, year) {
-        return no_days(refusals::NO_SUI);
+        return Err(Refusal::NoSui);
     }
     let index = turn_index(Body::Sun, turns.first, before);
     let zhongqi = zhongqi_days(leap, sunstart, sun, zone, index);

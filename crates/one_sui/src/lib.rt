@@ -3,12 +3,12 @@
 #![tactic(auto)]
 
 ghost use Rattle.std.specs.Prelude.{◌≡◌};
+ghost use Rattle.refusals.specs.Verdict.{paper};
 ghost use Rattle.inputs.specs.Inputs.{inputs};
-ghost use Rattle.months.specs.Answers.{sui_answer};
 ghost use Rattle.sui.specs.Sui.{sui_for};
 
-use months::SuiAnswer;
-use refusals::Check;
+use months::Sui;
+use refusals::Refusal;
 use times::Second;
 
 mod finding;
@@ -23,17 +23,10 @@ pub fn sui(
     moon: &[i64],
     zone: i64,
     year: i64,
-) -> SuiAnswer
-    ensures { result ≡ sui_answer (sui_for (inputs leap.now sunstart.0 sun.now moonstart.0 moon.now) zone year) }
+) -> Result<Sui, Refusal>
+    ensures { paper result ≡ sui_for (inputs leap.now sunstart.0 sun.now moonstart.0 moon.now) zone year }
 {
-    let check = inputs::judge_in(leap, sunstart, sun, moonstart, moon, zone);
-    if let Check::Refused(r) = check {
-        return month_rule::inner::no_sui(r);
-    }
-    let found = inner::days_in(leap, sunstart, sun, moonstart, moon, zone, year);
-    let judged = found.check;
-    if let Check::Refused(r) = judged {
-        return month_rule::inner::no_sui(r);
-    }
-    month_rule::inner::sui_of(year, found.days)
+    inputs::judge_in(leap, sunstart, sun, moonstart, moon, zone)?;
+    let days = inner::days_in(leap, sunstart, sun, moonstart, moon, zone, year)?;
+    month_rule::inner::sui_of(year, days)
 }

@@ -28,6 +28,7 @@ pub fn read_full<I: Read>(input: &mut I, room: &mut [u8]) -> io::Result<usize>
 
 // Whether there is an argument i; argument 0 is the program.
 pub fn has_argument(rt: &impl Env, i: usize) -> bool {
+    // Kept: fixed memory, no heap.
     let mut text = [0u8; 4096];
     match rt.arg(i, &mut text) {
         Ok(_) => true,
@@ -48,6 +49,7 @@ pub fn argument(rt: &impl Env, i: usize, room: &mut [u8]) -> usize
 
 // Prints argument i.
 pub fn print_argument(rt: &(impl Env + Print), i: usize) -> io::Result<()> {
+    // Kept: fixed memory, no heap.
     let mut text = [0u8; 4096];
     let n = argument(rt, i, &mut text);
     rt.write_all(&text[..n])
@@ -55,10 +57,33 @@ pub fn print_argument(rt: &(impl Env + Print), i: usize) -> io::Result<()> {
 
 // Opens the file that argument i names. A name is text.
 pub fn open_argument<R: Env + Files>(rt: &R, i: usize) -> io::Result<R::File> {
+    // Kept: fixed memory, no heap.
     let mut text = [0u8; 4096];
     let n = argument(rt, i, &mut text);
     match str::from_utf8(&text[..n]) {
         Ok(name) => File::open(rt, name),
         Err(_) => Err(Error::from(ErrorKind::InvalidInput)),
     }
+}
+
+// Goes over the files that the arguments name, each under its name: `run` is given one after another.
+pub fn each_file<R: Env + Files + Print, F: FnMut(&R, &mut R::File) -> io::Result<()>>(
+    rt: &R,
+    mut run: F,
+) -> io::Result<()>
+    requires { F.IsAlwaysCallable run }
+{
+    for i in 1..usize::MAX {
+        if !has_argument(rt, i) {
+            break;
+        }
+        print!(rt; "# ")?;
+        print_argument(rt, i)?;
+        println!(rt)?;
+        match open_argument(rt, i) {
+            Err(_) => println!(rt; "cannot be read")?,
+            Ok(mut file) => run(rt, &mut file)?,
+        }
+    }
+    Ok(())
 }

@@ -47,6 +47,7 @@ fn stand_in(told: &str) -> Option<Stand> {
 
 // How descriptor 3 stands, or nothing where it is closed; an error where the system does not tell.
 fn third_stands<R: Files>(rt: &R) -> io::Result<Option<Stand>> {
+    // Kept: fixed memory, no heap.
     let mut told = [0u8; 4096];
     let _tells = fs::metadata(rt, "/proc/self/fdinfo")?;
     let mut file = match File::open(rt, "/proc/self/fdinfo/3") {

@@ -3,28 +3,10 @@
 #![tactic(auto)]
 
 use std::io;
-use std::rt::{Env, Files};
-
-// Packs the text that argument i names.
-fn pack_case(rt: &(impl Env + Files + Print), i: usize) -> io::Result<()> {
-    print!(rt; "# ")?;
-    outside::print_argument(rt, i)?;
-    println!(rt)?;
-    match outside::open_argument(rt, i) {
-        Err(_) => println!(rt; "cannot be read"),
-        Ok(mut text) => {
-            pack_run::pack_from(rt, &mut text)?;
-            println!(rt)
-        }
-    }
-}
 
 fn main(rt: HostRuntime) -> io::Result<()> {
-    for i in 1..usize::MAX {
-        if !outside::has_argument(&rt, i) {
-            break;
-        }
-        pack_case(&rt, i)?;
-    }
-    Ok(())
+    outside::each_file(&rt, |rt, text| {
+        pack_run::pack_from(rt, text)?;
+        println!(rt)
+    })
 }

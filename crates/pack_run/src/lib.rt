@@ -1,7 +1,7 @@
 // All of the program that packs decimal words: from an input, which is standard input there, to standard output.
 #![tactic(auto)]
 
-use packing::PackAnswer;
+use packing::PackError;
 use std::io;
 use std::io::Read;
 
@@ -15,18 +15,12 @@ fn word_room() -> [u8; 3145728] {
     [0; 3145728]
 }
 
-// Prints where the first word stands that is none.
-fn print_bad(rt: &impl Print, line: usize, word: usize) -> io::Result<()> {
-    println!(rt; "R 13 line {line} word {word}")
-}
-
-// Prints the words of a text, packed in this room.
+// Prints the words of a text, packed in this room, or where the first stands that is none.
 fn print_words(rt: &impl Print, text: &[u8], out: &mut [u8]) -> io::Result<()> {
-    let answer = packing::pack(text, out);
-    match answer {
-        PackAnswer::Bad(line, word) => print_bad(rt, line, word),
-        PackAnswer::Room => println!(rt; "R 12 more than 393216 words"),
-        PackAnswer::Packed(bytes) => rt.write_all(&out[..bytes]),
+    match packing::pack(text, out) {
+        Ok(bytes) => rt.write_all(&out[..bytes]),
+        Err(PackError::BadWord(bad)) => println!(rt; "R 13 {bad}"),
+        Err(PackError::Room) => println!(rt; "R 12 more than 393216 words"),
     }
 }
 

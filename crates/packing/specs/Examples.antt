@@ -1,9 +1,9 @@
 -- Worked texts on both sides of every bound, each a computed fact, and all of them checked at once. A text is written out as bytes, with the text itself beside it (\n
 -- is the line feed, \r the carriage return, \t the tab, \v the vertical tab, \f the form feed). Assumes nothing.
-use Rattle.std.specs.Prelude.{Bool, true, false, ◌&&◌, List, [], ◌∷◌, ℕ, T, eqb, ℤ, pos, negsuc, replicate}
+use Rattle.std.specs.Prelude.{Bool, true, false, ◌&&◌, List, [], ◌∷◌, ℕ, T, eqb, ℤ, pos, negsuc, replicate, Result, Ok, Err}
 use Rattle.whole.specs.Evaluated.{all, same_numbers, same_words}
-use Rattle.packing.specs.declared.PackAnswer.{PackAnswer}
-use Rattle.packing.specs.declared.PackAnswer.TheVariants.{Packed, Bad, Room}
+use Rattle.packing.specs.declared.PackError.{PackError}
+use Rattle.packing.specs.declared.PackError.TheVariants.{BadWord, Room}
 use Rattle.packing.specs.Reading.{after_digit, beginning, in_word, at_next, began_at, step, end_of, ended_by}
 use Rattle.packing.specs.Packing.{Scanned, numbers, bad, scan, start, bytes_of, packed, held}
 
@@ -17,20 +17,19 @@ abbrev is_bad_at : Scanned → ℕ → ℕ → Bool
 is_bad_at (numbers zs) l w = false
 is_bad_at (bad line word) l w = eqb line l && eqb word w
 
-abbrev is_packed : PackAnswer → ℕ → Bool
-is_packed (Packed bytes) n = eqb bytes n
-is_packed (Bad line word) n = false
-is_packed Room n = false
+abbrev is_packed : Result ℕ PackError → ℕ → Bool
+is_packed (Ok bytes) n = eqb bytes n
+is_packed (Err e) n = false
 
-abbrev is_bad : PackAnswer → ℕ → ℕ → Bool
-is_bad (Packed bytes) l w = false
-is_bad (Bad line word) l w = eqb line l && eqb word w
-is_bad Room l w = false
+abbrev is_bad : Result ℕ PackError → ℕ → ℕ → Bool
+is_bad (Ok bytes) l w = false
+is_bad (Err (BadWord at)) l w = eqb at.line l && eqb at.word w
+is_bad (Err Room) l w = false
 
-abbrev is_room : PackAnswer → Bool
-is_room (Packed bytes) = false
-is_room (Bad line word) = false
-is_room Room = true
+abbrev is_room : Result ℕ PackError → Bool
+is_room (Ok bytes) = false
+is_room (Err (BadWord at)) = false
+is_room (Err Room) = true
 
 unfoldable pub examples : List Bool
 unfolding after_digit beginning in_word at_next began_at step end_of ended_by scan bytes_of packed held

@@ -1,8 +1,8 @@
 -- The words of a text, or the first that is none, and what `pack` answers and writes. Assumes nothing: these are definitions.
-use Rattle.std.specs.Prelude.{cond, List, [], ◌∷◌, ◌++◌, ℕ, ◌*◌, ltb, ℤ, length, drop}
+use Rattle.std.specs.Prelude.{cond, List, [], ◌∷◌, ◌++◌, ℕ, ◌*◌, ltb, ℤ, length, drop, Result, Ok, Err}
 use Rattle.words.specs.Words.{bytes8}
-use Rattle.packing.specs.declared.PackAnswer.{PackAnswer}
-use Rattle.packing.specs.declared.PackAnswer.TheVariants as answer
+use Rattle.packing.specs.declared.PackError.{PackError}
+use Rattle.packing.specs.declared.PackError.TheVariants as error
 use Rattle.packing.specs.declared.reading.At.TheVariants.{Between}
 use Rattle.packing.specs.declared.reading.State.{State}
 use Rattle.packing.specs.declared.reading.Ended.{Ended}
@@ -39,16 +39,16 @@ unfoldable pub bytes_of : List ℤ → List ℕ
 bytes_of [] = []
 bytes_of (z ∷ zs) = bytes8 z ++ bytes_of zs
 
-abbrev pub answer_for : Scanned → ℕ → PackAnswer
-answer_for (numbers zs) room = cond (ltb room (8 * length zs)) answer.Room (answer.Packed (8 * length zs))
-answer_for (bad line word) room = answer.Bad line word
+abbrev pub answer_for : Scanned → ℕ → Result ℕ PackError
+answer_for (numbers zs) room = cond (ltb room (8 * length zs)) (Err error.Room) (Ok (8 * length zs))
+answer_for (bad line word) room = Err (error.BadWord (record { line = line; word = word }))
 
 -- the words at the front, and what stood behind them; where nothing is packed, what it held
 abbrev pub held_after : Scanned → List ℕ → List ℕ
 held_after (numbers zs) out = cond (ltb (length out) (8 * length zs)) out (bytes_of zs ++ drop (8 * length zs) out)
 held_after (bad line word) out = out
 
-unfoldable pub packed : List ℕ → ℕ → PackAnswer
+unfoldable pub packed : List ℕ → ℕ → Result ℕ PackError
 packed text room = answer_for (scan start text) room
 
 unfoldable pub held : List ℕ → List ℕ → List ℕ

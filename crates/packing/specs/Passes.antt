@@ -1,16 +1,15 @@
 -- What the two passes hold between bytes: the rest of the text, with what was done before it. Assumes nothing: these are definitions.
-use Rattle.std.specs.Prelude.{Bool, true, false, List, [], ℕ, ◌+◌, ℤ, length}
+use Rattle.std.specs.Prelude.{Bool, true, false, List, [], ℕ, ◌+◌, ℤ, length, Result, Ok, Err}
 use Rattle.words.specs.Words.{bytes8}
-use Rattle.packing.specs.declared.passes.Judged.{Judged}
-use Rattle.packing.specs.declared.passes.Judged.TheVariants as judge
+use Rattle.packing.specs.declared.BadWord.{BadWord}
 use Rattle.packing.specs.declared.reading.Ended.{Ended}
 use Rattle.packing.specs.declared.reading.Ended.TheVariants as ended
 use Rattle.packing.specs.Packing.{Scanned, numbers, bad}
 
 -- so many words, and those of the rest
-abbrev pub judged : ℕ → Scanned → Judged
-judged n (numbers zs) = judge.Words (n + length zs)
-judged n (bad line word) = judge.Bad line word
+abbrev pub judged : ℕ → Scanned → Result ℕ BadWord
+judged n (numbers zs) = Ok (n + length zs)
+judged n (bad line word) = Err (record { line = line; word = word })
 
 abbrev pub is_good : Scanned → Bool
 is_good (numbers zs) = true

@@ -4,14 +4,8 @@ ghost use Rattle.whole.specs.Lists.{placed};
 ghost use Rattle.packing.specs.Packing.{scan, start, bytes_of};
 ghost use Rattle.packing.specs.Passes.{judged, is_bad, ended_words, ended_bytes, is_good, found};
 
+use crate::BadWord;
 use crate::reading::{At, Ended, State, end_of, ended_by, step};
-
-// How many words a text has, or where the first stands that is none.
-#[derive(Clone, Copy)]
-pub enum Judged {
-    Words(usize),
-    Bad(usize, usize),
-}
 
 fn begin() -> State
     ensures { result ≡ start }
@@ -44,30 +38,33 @@ fn count(ended: Ended) -> usize
     }
 }
 
-// The first pass.
-pub fn judge(text: &[u8]) -> Judged
+// The first pass: how many words a text has, or the first that is none.
+pub fn judge(text: &[u8]) -> Result<usize, BadWord>
     ensures { result ≡ judged 0 (scan start text.now) }
 {
     let mut state = begin();
     let mut words: usize = 0;
-    let mut i = 0;
-    while i < text.len() {
-        let byte = text[i];
+    for &byte in text {
         let at = state.at;
         let ended = ended_by(at, byte);
         if is_bad(ended) {
-            return Judged::Bad(state.line, state.word);
+            return Err(BadWord {
+                line: state.line,
+                word: state.word,
+            });
         }
         words += count(ended);
         state = step(state, byte);
-        i += 1;
     }
     let at = state.at;
     let last = end_of(at);
     if is_bad(last) {
-        return Judged::Bad(state.line, state.word);
+        return Err(BadWord {
+            line: state.line,
+            word: state.word,
+        });
     }
-    Judged::Words(words + count(last))
+    Ok(words + count(last))
 }
 
 // Puts the bytes of what ended behind those that end at `end`, and says where they end now.
@@ -94,14 +91,11 @@ pub fn fill(text: &[u8], out: &mut [u8])
 {
     let mut state = begin();
     let mut end: usize = 0;
-    let mut i = 0;
-    while i < text.len() {
-        let byte = text[i];
+    for &byte in text {
         let at = state.at;
         let ended = ended_by(at, byte);
         end = put_ended(out, end, ended);
         state = step(state, byte);
-        i += 1;
     }
     let at = state.at;
     let last = end_of(at);

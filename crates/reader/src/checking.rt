@@ -1,18 +1,13 @@
 // Whether the content that stands in a file is lawful, judged from its bytes, record after record; only the leap table is read into words.
-ghost use Rattle.std.specs.Prelude.{◌≡◌, true, ◌+◌, ◌≤◌, ◌<◌, pos, nat_abs, ◌≤ℤ◌, length};
-ghost use Rattle.whole.specs.Ranges.{Within};
-ghost use Rattle.content.specs.Content.{year_at, count_at, month_at, good_months, lawful};
-ghost use Rattle.content.specs.Steps.{suis_lawful};
-ghost use Rattle.content.specs.theory.Walk.{Due};
+ghost use Rattle.std.specs.Prelude.{◌≡◌, ◌≤◌, length};
+ghost use Rattle.content.specs.Content.{lawful};
 ghost use Rattle.almanac.specs.Layout.{end_at, content_at};
 
 use crate::reading::read_entries;
 use almanac::Counts;
-use content::inner::{MonthsJudged, first_handle, good_sui, judge_month};
+use content::inner::{Records, SuiRecord, suis_lawful};
 use conversion::inner::leap_lawful;
-use dates::inner::has_date;
-use times::Day;
-use whole::inner::{add, count, in_range, signed};
+use months::Month;
 use words::inner::{byte_at, signed4_at, unsigned4_at};
 
 // Room for the words of the largest leap table: 64 entries.
@@ -22,137 +17,49 @@ fn entry_words() -> [i64; 128]
     [0; 128]
 }
 
-// A sui: year and number of months.
+// The records of a file of these counts.
 #[derive(Clone, Copy)]
-struct SuiRead {
-    year: i64,
-    months: i64,
+struct InFile<'a> {
+    file: &'a [u8],
+    counts: Counts,
+    ghost ends: { end_at counts.entries counts.suis counts.months ≤ length file.now },
 }
 
-// A month: handle, first day and length.
-#[derive(Clone, Copy)]
-struct MonthRead {
-    handle: i64,
-    first: i64,
-    size: i64,
-}
+impl<'a> Records for InFile<'a> {
+    ghost suis = { λ records. (content_at records.file.now records.counts).suis };
 
-// Sui i of a file of these counts.
-fn sui_at(file: &[u8], n: Counts, i: usize) -> SuiRead
-    requires months_in_bounds { end_at n.entries n.suis n.months ≤ length file.now }
-    requires i_lt_suis { i < n.suis }
-    ensures year_value { result.year ≡ year_at (content_at file.now n).suis i }
-    ensures months_value { result.months ≡ count_at (content_at file.now n).suis i }
-{
-    let at = 4 + 8 * n.entries + 4 + 5 * i;
-    SuiRead {
-        year: signed4_at(file, at),
-        months: byte_at(file, at + 4),
+    ghost months = { λ records. (content_at records.file.now records.counts).months };
+
+    #[tactic(auto, using(almanac::specs::theory::Checked::sui_count_lem))]
+    fn sui_count(&self) -> usize {
+        self.counts.suis
     }
-}
 
-// Month k of a file of these counts.
-fn month_at(file: &[u8], n: Counts, k: usize) -> MonthRead
-    requires months_in_bounds { end_at n.entries n.suis n.months ≤ length file.now }
-    requires k_lt_months { k < n.months }
-    ensures handle_value { result.handle ≡ (month_at (content_at file.now n).months k).handle }
-    ensures first_value { result.first ≡ (month_at (content_at file.now n).months k).first }
-    ensures size_value { result.size ≡ (month_at (content_at file.now n).months k).length }
-{
-    let at = 4 + 8 * n.entries + 4 + 5 * n.suis + 4 + 9 * k;
-    MonthRead {
-        handle: unsigned4_at(file, at),
-        first: signed4_at(file, at + 4),
-        size: byte_at(file, at + 8),
+    #[tactic(auto, using(almanac::specs::theory::Checked::month_count_lem))]
+    fn month_count(&self) -> usize {
+        self.counts.months
     }
-}
 
-// The months of a sui, which stand from month `from` on.
-fn months_at(file: &[u8], n: Counts, year: i64, size: i64, from: usize, due: i64) -> MonthsJudged
-    requires months_in_bounds { end_at n.entries n.suis n.months ≤ length file.now }
-    requires within { Within 2500 year }
-    requires pos_bound { (pos 12 ≤ℤ size) × (size ≤ℤ pos 13) }
-    requires size_bound { from + nat_abs size ≤ n.months }
-    requires due { Due (content_at file.now n).months from due }
-    ensures good_value { result.good ≡ good_months (content_at file.now n).months year size from }
-    ensures due_2 { result.good ≡ true → Due (content_at file.now n).months (from + nat_abs size) result.due }
-{
-    let last = count(size);
-    let mut place: usize = 0;
-    let mut leaps: usize = 0;
-    let mut next = first_handle(year);
-    let mut day = due;
-    while place < last {
-        let month = month_at(file, n, from + place);
-        let walked = judge_month(
-            year,
-            size,
-            place,
-            leaps,
-            next,
-            day,
-            month.handle,
-            month.first,
-            month.size,
-        );
-        if !walked.good {
-            return MonthsJudged {
-                good: false,
-                due: 0,
-            };
+    #[tactic(auto, using(almanac::specs::theory::Checked::sui_count_lem))]
+    fn sui_at(&self, i: usize) -> SuiRecord {
+        let n = self.counts;
+        let at = 4 + 8 * n.entries + 4 + 5 * i;
+        SuiRecord {
+            year: signed4_at(self.file, at),
+            months: byte_at(self.file, at + 4),
         }
-        leaps = walked.leaps;
-        next = walked.next;
-        day = walked.due;
-        place += 1;
     }
-    let lawful = signed(12 + leaps);
-    MonthsJudged {
-        good: in_range(lawful, lawful, size),
-        due: day,
-    }
-}
 
-// Every sui and its months, one after another; and no month is left over.
-fn suis_at(file: &[u8], n: Counts) -> bool
-    requires months_in_bounds { end_at n.entries n.suis n.months ≤ length file.now }
-    requires suis_nonzero { 0 < n.suis }
-    requires suis_bound { n.suis ≤ 128 }
-    ensures { result ≡ suis_lawful (content_at file.now n).suis (content_at file.now n).months }
-{
-    if n.months < 1 {
-        return false;
-    }
-    let month = month_at(file, n, 0);
-    let mut day = month.first;
-    if !has_date(Day(day)) {
-        return false;
-    }
-    let sui = sui_at(file, n, 0);
-    let mut due = sui.year;
-    let mut i: usize = 0;
-    let mut from: usize = 0;
-    while i < n.suis {
-        let read = sui_at(file, n, i);
-        let year = read.year;
-        let size = read.months;
-        if !good_sui(due, year, size) {
-            return false;
+    #[tactic(auto, using(almanac::specs::theory::Checked::month_count_lem))]
+    fn month_at(&self, k: usize) -> Month {
+        let n = self.counts;
+        let at = 4 + 8 * n.entries + 4 + 5 * n.suis + 4 + 9 * k;
+        Month {
+            handle: unsigned4_at(self.file, at),
+            first: signed4_at(self.file, at + 4),
+            length: byte_at(self.file, at + 8),
         }
-        let behind = from + count(size);
-        if n.months < behind {
-            return false;
-        }
-        let judged = months_at(file, n, year, size, from, day);
-        if !judged.good {
-            return false;
-        }
-        due = add(year, 1);
-        day = judged.due;
-        from = behind;
-        i += 1;
     }
-    n.months == from
 }
 
 // Whether the content of a file of these counts is lawful.
@@ -169,10 +76,11 @@ pub fn lawful_at(file: &[u8], n: Counts) -> bool
     if n.suis < 1 {
         return false;
     }
+    // Kept: fixed memory, no heap.
     let mut leap = entry_words();
     read_entries(file, 4, n.entries, &mut leap);
     if !leap_lawful(&leap[..2 * n.entries]) {
         return false;
     }
-    suis_at(file, n)
+    suis_lawful(&InFile { file, counts: n })
 }

@@ -11,12 +11,10 @@ pub fn read_months(file: &[u8], at: usize, n: usize, out: &mut [i64])
     requires n_in_bounds_2 { 3 * n ≤ length out.old }
     ensures { out.new ≡ numbers_in (times n month_fields) file.now at ++ drop (3 * n) out.old }
 {
-    let mut i = 0;
-    while i < n {
+    for i in 0..n {
         let here = at + 9 * i;
         out[3 * i] = unsigned4_at(file, here);
         out[3 * i + 1] = signed4_at(file, here + 4);
         out[3 * i + 2] = byte_at(file, here + 8);
-        i += 1;
     }
 }

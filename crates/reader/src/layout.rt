@@ -1,10 +1,11 @@
 // Where the sections of a file stand. Everything that does not fit is 13.
 ghost use Rattle.std.specs.Prelude.{◌≡◌, ◌+◌, ◌≤◌, ◌<◌, length};
+ghost use Rattle.refusals.specs.Verdict.{paper};
 ghost use Rattle.words.specs.Words.{pattern4};
 ghost use Rattle.almanac.specs.Layout.{counts_of};
-ghost use Rattle.almanac.specs.Answers.{paper_file};
 
-use almanac::{Counts, FileAnswer};
+use almanac::Counts;
+use refusals::Refusal;
 
 // The count that stands at `at`.
 fn count_at(file: &[u8], at: usize) -> usize
@@ -15,29 +16,28 @@ fn count_at(file: &[u8], at: usize) -> usize
 }
 
 // The counts of a file whose sections are all there, with nothing behind them.
-pub fn counts_of(file: &[u8]) -> FileAnswer
-    ensures { paper_file result ≡ counts_of file.now }
+pub fn counts_of(file: &[u8]) -> Result<Counts, Refusal>
+    ensures { paper result ≡ counts_of file.now }
 {
-    let broken = FileAnswer::Refused(refusals::LAYOUT);
     let end = file.len();
     if end < 4 {
-        return broken;
+        return Err(Refusal::Layout);
     }
     let entries = count_at(file, 0);
     let second = 4 + 8 * entries;
     if end < second + 4 {
-        return broken;
+        return Err(Refusal::Layout);
     }
     let suis = count_at(file, second);
     let third = second + 4 + 5 * suis;
     if end < third + 4 {
-        return broken;
+        return Err(Refusal::Layout);
     }
     let months = count_at(file, third);
     if end != third + 4 + 9 * months {
-        return broken;
+        return Err(Refusal::Layout);
     }
-    FileAnswer::File(Counts {
+    Ok(Counts {
         entries,
         suis,
         months,

@@ -9,32 +9,30 @@ use almanac::Counts;
 use words::inner::{byte_at, signed4_at, unsigned4_at};
 
 // n leap entries: day and offset.
+// Kept: widths and signs differ from record to record; a generic one would be handed a reading for each field, and be longer than the three.
 pub fn read_entries(file: &[u8], at: usize, n: usize, out: &mut [i64])
     requires n_in_bounds { at + 8 * n ≤ length file.now }
     requires n_in_bounds_2 { 2 * n ≤ length out.old }
     ensures { out.new ≡ numbers_in (times n entry_fields) file.now at ++ drop (2 * n) out.old }
 {
-    let mut i = 0;
-    while i < n {
+    for i in 0..n {
         let here = at + 8 * i;
         out[2 * i] = signed4_at(file, here);
         out[2 * i + 1] = unsigned4_at(file, here + 4);
-        i += 1;
     }
 }
 
 // n suis: year and number of months.
+// Kept: widths and signs differ from record to record; a generic one would be handed a reading for each field, and be longer than the three.
 pub fn read_suis(file: &[u8], at: usize, n: usize, out: &mut [i64])
     requires n_in_bounds { at + 5 * n ≤ length file.now }
     requires n_in_bounds_2 { 2 * n ≤ length out.old }
     ensures { out.new ≡ numbers_in (times n sui_fields) file.now at ++ drop (2 * n) out.old }
 {
-    let mut i = 0;
-    while i < n {
+    for i in 0..n {
         let here = at + 5 * i;
         out[2 * i] = signed4_at(file, here);
         out[2 * i + 1] = byte_at(file, here + 4);
-        i += 1;
     }
 }
 

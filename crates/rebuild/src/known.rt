@@ -1,20 +1,22 @@
 // The old side: from accepted old inputs to the old days ahead, whether they give the old file, and then the new side.
 ghost use Rattle.std.specs.Prelude.{◌≡◌, ◌≤◌, ◌<◌, length};
 ghost use Rattle.whole.specs.Ranges.{Within};
+ghost use Rattle.refusals.specs.Verdict.{paper};
 ghost use Rattle.refusals.specs.Lent.{written_into};
 ghost use Rattle.inputs.specs.Inputs.{inputs};
 ghost use Rattle.inputs.specs.Known.{Known};
 ghost use Rattle.build.specs.theory.Walk.{Begins, Walks};
-ghost use Rattle.rebuilt.specs.Rebuild.{paper_rebuilt, counted, new_bytes, kept_years};
+ghost use Rattle.rebuilt.specs.Rebuild.{counted, new_bytes, kept_years};
 ghost use Rattle.rebuild.specs.theory.Over.{rebuilt_over};
 
 use super::new::rebuild_new;
 use super::old::gives;
 use build::inner::ahead::find_ahead;
 use kept_or_made::inner::days::keep_days;
-use rebuilt::RebuildAnswer;
+use rebuilt::Rebuilt;
+use refusals::Refusal;
 use series::Body;
-use suis::inner::{BeginAnswer, Places, begin};
+use suis::inner::{Places, begin};
 use times::Second;
 use turns::inner::{TurnList, turns_of};
 
@@ -42,9 +44,9 @@ fn rebuild_found(
     oldzhongqi: &[i64],
     file: &mut [u8],
     years: &mut [i64],
-) -> RebuildAnswer
+) -> Result<Rebuilt, Refusal>
     requires { Walks (inputs oldleap.now oldsunstart.0 oldsun.now oldmoonstart.0 oldmoon.now) zone oldsuns oldmoons oldplaces first n oldsolstices.now oldnewmoons.now oldzhongqi.now }
-    ensures result_value { paper_rebuilt result ≡ counted (rebuilt_over (inputs oldleap.now oldsunstart.0 oldsun.now oldmoonstart.0 oldmoon.now) (inputs leap.now sunstart.0 sun.now moonstart.0 moon.now) zone old.now first n (length file.old) (length years.old)) }
+    ensures result_value { paper result ≡ counted (rebuilt_over (inputs oldleap.now oldsunstart.0 oldsun.now oldmoonstart.0 oldmoon.now) (inputs leap.now sunstart.0 sun.now moonstart.0 moon.now) zone old.now first n (length file.old) (length years.old)) }
     ensures file_after { file.new ≡ written_into (rebuilt_over (inputs oldleap.now oldsunstart.0 oldsun.now oldmoonstart.0 oldmoon.now) (inputs leap.now sunstart.0 sun.now moonstart.0 moon.now) zone old.now first n (length file.old) (length years.old)) new_bytes file.old }
     ensures years_after { years.new ≡ written_into (rebuilt_over (inputs oldleap.now oldsunstart.0 oldsun.now oldmoonstart.0 oldmoon.now) (inputs leap.now sunstart.0 sun.now moonstart.0 moon.now) zone old.now first n (length file.old) (length years.old)) kept_years years.old }
 {
@@ -65,7 +67,7 @@ fn rebuild_found(
         oldzhongqi,
         old,
     ) {
-        return RebuildAnswer::Refused(refusals::LAYOUT);
+        return Err(Refusal::Layout);
     }
     // The days of 128 suis, 28 words each, stored word by word where they stand (`build::inner::ahead::build_from` says why).
     let mut before: [i64; 3584] = [first; 3584];
@@ -137,13 +139,14 @@ fn rebuild_begun(
     n: usize,
     file: &mut [u8],
     years: &mut [i64],
-) -> RebuildAnswer
+) -> Result<Rebuilt, Refusal>
     requires { Begins (inputs oldleap.now oldsunstart.0 oldsun.now oldmoonstart.0 oldmoon.now) zone oldsuns oldmoons oldplaces first n }
-    ensures result_value { paper_rebuilt result ≡ counted (rebuilt_over (inputs oldleap.now oldsunstart.0 oldsun.now oldmoonstart.0 oldmoon.now) (inputs leap.now sunstart.0 sun.now moonstart.0 moon.now) zone old.now first n (length file.old) (length years.old)) }
+    ensures result_value { paper result ≡ counted (rebuilt_over (inputs oldleap.now oldsunstart.0 oldsun.now oldmoonstart.0 oldmoon.now) (inputs leap.now sunstart.0 sun.now moonstart.0 moon.now) zone old.now first n (length file.old) (length years.old)) }
     ensures file_after { file.new ≡ written_into (rebuilt_over (inputs oldleap.now oldsunstart.0 oldsun.now oldmoonstart.0 oldmoon.now) (inputs leap.now sunstart.0 sun.now moonstart.0 moon.now) zone old.now first n (length file.old) (length years.old)) new_bytes file.old }
     ensures years_after { years.new ≡ written_into (rebuilt_over (inputs oldleap.now oldsunstart.0 oldsun.now oldmoonstart.0 oldmoon.now) (inputs leap.now sunstart.0 sun.now moonstart.0 moon.now) zone old.now first n (length file.old) (length years.old)) kept_years years.old }
 {
     // rooms for the days ahead of 128 suis, as `build::inner::ahead::build_at` has them
+    // Kept: fixed memory, no heap.
     let mut solstices: [i64; 130] = [first; 130];
     let mut newmoons: [i64; 1666] = [first; 1666];
     let mut zhongqi: [i64; 1664] = [first; 1664];
@@ -207,18 +210,18 @@ pub fn rebuild_accepted(
     n: usize,
     file: &mut [u8],
     years: &mut [i64],
-) -> RebuildAnswer
+) -> Result<Rebuilt, Refusal>
     requires known { Known (inputs oldleap.now oldsunstart.0 oldsun.now oldmoonstart.0 oldmoon.now) }
     requires within { Within 1000 zone }
     requires n_nonzero { 0 < n }
     requires n_bound { n ≤ 128 }
-    ensures result_value { paper_rebuilt result ≡ counted (rebuilt_over (inputs oldleap.now oldsunstart.0 oldsun.now oldmoonstart.0 oldmoon.now) (inputs leap.now sunstart.0 sun.now moonstart.0 moon.now) zone old.now first n (length file.old) (length years.old)) }
+    ensures result_value { paper result ≡ counted (rebuilt_over (inputs oldleap.now oldsunstart.0 oldsun.now oldmoonstart.0 oldmoon.now) (inputs leap.now sunstart.0 sun.now moonstart.0 moon.now) zone old.now first n (length file.old) (length years.old)) }
     ensures file_after { file.new ≡ written_into (rebuilt_over (inputs oldleap.now oldsunstart.0 oldsun.now oldmoonstart.0 oldmoon.now) (inputs leap.now sunstart.0 sun.now moonstart.0 moon.now) zone old.now first n (length file.old) (length years.old)) new_bytes file.old }
     ensures years_after { years.new ≡ written_into (rebuilt_over (inputs oldleap.now oldsunstart.0 oldsun.now oldmoonstart.0 oldmoon.now) (inputs leap.now sunstart.0 sun.now moonstart.0 moon.now) zone old.now first n (length file.old) (length years.old)) kept_years years.old }
 {
     let oldsuns = turns_of(Body::Sun, oldsunstart, oldsun);
     let oldmoons = turns_of(Body::Moon, oldmoonstart, oldmoon);
-    let begun = begin(
+    let Ok(oldplaces) = begin(
         oldleap,
         oldsunstart,
         oldsun,
@@ -228,29 +231,28 @@ pub fn rebuild_accepted(
         oldsuns,
         oldmoons,
         first,
-    );
-    match begun {
-        BeginAnswer::Refused(_) => RebuildAnswer::Refused(refusals::LAYOUT),
-        BeginAnswer::Begin(oldplaces) => rebuild_begun(
-            old,
-            oldleap,
-            oldsunstart,
-            oldsun,
-            oldmoonstart,
-            oldmoon,
-            leap,
-            sunstart,
-            sun,
-            moonstart,
-            moon,
-            zone,
-            oldsuns,
-            oldmoons,
-            oldplaces,
-            first,
-            n,
-            file,
-            years,
-        ),
-    }
+    ) else {
+        return Err(Refusal::Layout);
+    };
+    rebuild_begun(
+        old,
+        oldleap,
+        oldsunstart,
+        oldsun,
+        oldmoonstart,
+        oldmoon,
+        leap,
+        sunstart,
+        sun,
+        moonstart,
+        moon,
+        zone,
+        oldsuns,
+        oldmoons,
+        oldplaces,
+        first,
+        n,
+        file,
+        years,
+    )
 }

@@ -2,14 +2,14 @@
 #![tactic(auto)]
 
 ghost use Rattle.std.specs.Prelude.{◌≡◌, length};
+ghost use Rattle.refusals.specs.Verdict.{paper};
 ghost use Rattle.refusals.specs.Lent.{written_into};
 ghost use Rattle.inputs.specs.Inputs.{inputs};
-ghost use Rattle.rebuilt.specs.Rebuild.{rebuilt, paper_rebuilt, counted, new_bytes, kept_years};
+ghost use Rattle.rebuilt.specs.Rebuild.{rebuilt, counted, new_bytes, kept_years};
 
 use conversion::inner::is_zone;
-use old::FileYearsAnswer;
-use rebuilt::RebuildAnswer;
-use refusals::Check;
+use rebuilt::Rebuilt;
+use refusals::Refusal;
 use times::Second;
 
 mod known;
@@ -35,40 +35,34 @@ pub fn rebuild(
     zone: i64,
     file: &mut [u8],
     years: &mut [i64],
-) -> RebuildAnswer
-    ensures result_value { paper_rebuilt result ≡ counted (rebuilt (inputs oldleap.now oldsunstart.0 oldsun.now oldmoonstart.0 oldmoon.now) (inputs leap.now sunstart.0 sun.now moonstart.0 moon.now) zone old.now (length file.old) (length years.old)) }
+) -> Result<Rebuilt, Refusal>
+    ensures result_value { paper result ≡ counted (rebuilt (inputs oldleap.now oldsunstart.0 oldsun.now oldmoonstart.0 oldmoon.now) (inputs leap.now sunstart.0 sun.now moonstart.0 moon.now) zone old.now (length file.old) (length years.old)) }
     ensures file_after { file.new ≡ written_into (rebuilt (inputs oldleap.now oldsunstart.0 oldsun.now oldmoonstart.0 oldmoon.now) (inputs leap.now sunstart.0 sun.now moonstart.0 moon.now) zone old.now (length file.old) (length years.old)) new_bytes file.old }
     ensures years_after { years.new ≡ written_into (rebuilt (inputs oldleap.now oldsunstart.0 oldsun.now oldmoonstart.0 oldmoon.now) (inputs leap.now sunstart.0 sun.now moonstart.0 moon.now) zone old.now (length file.old) (length years.old)) kept_years years.old }
 {
     if !is_zone(zone) {
-        return RebuildAnswer::Refused(refusals::ZONE);
+        return Err(Refusal::Zone);
     }
-    let span = old::years_in(old);
-    match span {
-        FileYearsAnswer::Refused(r) => RebuildAnswer::Refused(r),
-        FileYearsAnswer::Years(y) => {
-            let check = inputs::judge(oldleap, oldsunstart, oldsun, oldmoonstart, oldmoon);
-            if let Check::Refused(_) = check {
-                return RebuildAnswer::Refused(refusals::LAYOUT);
-            }
-            known::rebuild_accepted(
-                old,
-                oldleap,
-                oldsunstart,
-                oldsun,
-                oldmoonstart,
-                oldmoon,
-                leap,
-                sunstart,
-                sun,
-                moonstart,
-                moon,
-                zone,
-                y.first,
-                y.count,
-                file,
-                years,
-            )
-        }
+    let span = old::years_in(old)?;
+    if inputs::judge(oldleap, oldsunstart, oldsun, oldmoonstart, oldmoon).is_err() {
+        return Err(Refusal::Layout);
     }
+    known::rebuild_accepted(
+        old,
+        oldleap,
+        oldsunstart,
+        oldsun,
+        oldmoonstart,
+        oldmoon,
+        leap,
+        sunstart,
+        sun,
+        moonstart,
+        moon,
+        zone,
+        span.first,
+        span.count,
+        file,
+        years,
+    )
 }

@@ -1,35 +1,21 @@
 // The old file: whether inputs give it, and its years.
 ghost use Rattle.std.specs.Prelude.{◌≡◌, length};
-ghost use Rattle.refusals.specs.Verdict.{answered, ◌then◌};
+ghost use Rattle.refusals.specs.Verdict.{answered, ◌then◌, paper};
 ghost use Rattle.inputs.specs.Inputs.{inputs};
 ghost use Rattle.almanac.specs.Layout.{file_of};
 ghost use Rattle.built.specs.Build.{bytes_of_years};
 ghost use Rattle.build.specs.theory.Walk.{Walks};
 ghost use Rattle.rebuilt.specs.Rebuild.{is_file, most_bytes, years_in};
-ghost use Rattle.rebuild.specs.theory.Judging.{paper_years};
 
 use alike::inner::same_bytes;
-use almanac::{FileAnswer, WriteAnswer};
 use build::inner::ahead::build_from;
 use reader::check_file;
+use rebuilt::Years;
 use refusals::Refusal;
 use suis::inner::Places;
 use times::Second;
 use turns::inner::TurnList;
 use words::inner::signed4_at;
-
-// The first year of a file, and how many years it has.
-#[derive(Clone, Copy)]
-pub struct FileYears {
-    pub first: i64,
-    pub count: usize,
-}
-
-#[derive(Clone, Copy)]
-pub enum FileYearsAnswer {
-    Years(FileYears),
-    Refused(Refusal),
-}
 
 // Room for the largest file: 64 leap entries, 128 suis of 13 months.
 fn file_room() -> [u8; 16140]
@@ -59,27 +45,25 @@ pub fn gives(
     requires { Walks (inputs leap.now sunstart.0 sun.now moonstart.0 moon.now) zone suns moons places first n solstices.now newmoons.now zhongqi.now }
     ensures { result ≡ is_file (bytes_of_years (inputs leap.now sunstart.0 sun.now moonstart.0 moon.now) zone first n most_bytes) file.now }
 {
+    // Kept: fixed memory, no heap.
     let mut room = file_room();
     let built = build_from(
         leap, sunstart, sun, moonstart, moon, zone, suns, moons, places, first, n, solstices,
         newmoons, zhongqi, &mut room,
     );
     match built {
-        WriteAnswer::Refused(_) => false,
-        WriteAnswer::Written(size) => same_bytes(&room[..size], file),
+        Err(_) => false,
+        Ok(size) => same_bytes(&room[..size], file),
     }
 }
 
 // The years of a lawful file; 13 otherwise.
-pub fn years_in(file: &[u8]) -> FileYearsAnswer
-    ensures { paper_years result ≡ (file_of file.now then λ c. answered (years_in c)) }
+pub fn years_in(file: &[u8]) -> Result<Years, Refusal>
+    ensures { paper result ≡ (file_of file.now then λ c. answered (years_in c)) }
 {
-    let checked = check_file(file);
-    match checked {
-        FileAnswer::Refused(r) => FileYearsAnswer::Refused(r),
-        FileAnswer::File(n) => FileYearsAnswer::Years(FileYears {
-            first: signed4_at(file, 4 + 8 * n.entries + 4),
-            count: n.suis,
-        }),
-    }
+    let n = check_file(file)?;
+    Ok(Years {
+        first: signed4_at(file, 4 + 8 * n.entries + 4),
+        count: n.suis,
+    })
 }

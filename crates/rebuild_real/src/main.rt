@@ -6,12 +6,9 @@
 ghost use Rattle.std.specs.Prelude.{◌≡◌, length};
 
 use alike::inner::same_bytes;
-use almanac::WriteAnswer;
-use build_run::inner::{
-    file_room, open_argument, print_argument, print_refusal, take_all, word_room,
-};
+use build_run::inner::{file_room, open_argument, print_argument, take_all, word_room};
 use rebuild_run::inner::{print_rebuilt, year_room};
-use refusals::Check;
+use refusals::Refusal;
 use replacing::replace_segment;
 use series::Body;
 use std::io;
@@ -34,14 +31,8 @@ fn change_words() -> [i64; 16]
 
 // Copies words to the front of others, as far as both go.
 fn copy_words(from: &[i64], to: &mut [i64]) {
-    let mut i = 0;
-    while i < from.len() {
-        if to.len() <= i {
-            return;
-        }
-        to[i] = from[i];
-        i += 1;
-    }
+    let n = from.len().min(to.len());
+    to[..n].copy_from_slice(&from[..n]);
 }
 
 // Says whether what is rebuilt is what is built fresh.
@@ -53,13 +44,14 @@ fn print_fresh(
     words: &[i64],
     bytes: usize,
 ) -> io::Result<()> {
+    // Kept: fixed memory, no heap.
     let mut file = file_room();
     let mut years = year_room();
-    rebuilding::rebuild_taken(
+    let _ = rebuilding::rebuild_taken(
         old, oldwords, oldbytes, words, bytes, 480, &mut file, &mut years,
     );
     let mut fresh = file_room();
-    building::build_taken(words, bytes, 480, &mut fresh);
+    let _ = building::build_taken(words, bytes, 480, &mut fresh);
     if !same_bytes(&file, &fresh) {
         print!(rt; "not ")?;
     }
@@ -92,16 +84,12 @@ fn corrected_part(change: &[i64]) -> [i64; 14]
     requires { length change.now ≡ 16 }
 {
     let mut part: [i64; 14] = [0; 14];
-    let mut i: usize = 0;
-    while i < 14 {
-        part[i] = change[2 + i];
-        i += 1;
-    }
+    part.copy_from_slice(&change[2..]);
     part
 }
 
 // Replaces a segment: 346 of the Sun stand from word 61 on, behind their start, and 2,760 of the Moon from word 4,907 on.
-fn correct(change: &[i64], words: &mut [i64]) -> Check
+fn correct(change: &[i64], words: &mut [i64]) -> Result<(), Refusal>
     requires change_len { length change.now ≡ 16 }
     requires words_len { length words.old ≡ 252135 }
 {
@@ -120,11 +108,7 @@ fn make_room(oldwords: &[i64], words: &mut [i64])
     requires oldwords_len { length oldwords.now ≡ 252135 }
     requires words_len { length words.old ≡ 252135 }
 {
-    let mut i = 59;
-    while i < 43547 {
-        words[i + 2] = oldwords[i];
-        i += 1;
-    }
+    words[61..43549].copy_from_slice(&oldwords[59..43547]);
 }
 
 // Puts a leap entry behind the 28 that are there, where room was made for it.
@@ -161,9 +145,8 @@ fn rebuild_case(
         put_entry(&change, &mut words);
         return print_case(rt, old, oldwords, 348376, &words, 348392);
     }
-    let corrected = correct(&change, &mut words);
-    if let Check::Refused(r) = corrected {
-        return print_refusal(rt, r);
+    if let Err(r) = correct(&change, &mut words) {
+        return println!(rt; "R {r}");
     }
     print_case(rt, old, oldwords, 348376, &words, 348376)
 }
@@ -171,6 +154,7 @@ fn rebuild_case(
 // The last byte of the old file is one more.
 fn rebuild_damaged(rt: &(impl Print + Eprint), old: &[u8], oldwords: &[i64]) -> io::Result<()> {
     println!(rt; "# damaged")?;
+    // Kept: fixed memory, no heap.
     let mut damaged = file_room();
     let n = old.len();
     if 16140 < n {
@@ -217,11 +201,11 @@ fn rebuild_built(
 ) -> io::Result<()>
     requires { length oldwords.now ≡ 252135 }
 {
+    // Kept: fixed memory, no heap.
     let mut file = file_room();
-    let built = building::build_taken(oldwords, bytes, 480, &mut file);
-    match built {
-        WriteAnswer::Refused(r) => print_refusal(rt, r),
-        WriteAnswer::Written(n) => rebuild_all(rt, &file[..n], oldwords),
+    match building::build_taken(oldwords, bytes, 480, &mut file) {
+        Err(r) => println!(rt; "R {r}"),
+        Ok(n) => rebuild_all(rt, &file[..n], oldwords),
     }
 }
 

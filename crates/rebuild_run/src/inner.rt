@@ -1,9 +1,7 @@
 // What the programs that rebuild have in common: rooms, and how what was rebuilt is printed.
 ghost use Rattle.std.specs.Prelude.{◌≡◌, length};
 
-use almanac::WriteAnswer;
-use build_run::inner::{file_room, print_refusal, print_series};
-use rebuilt::RebuildAnswer;
+use build_run::inner::{file_room, print_series};
 use refusals::Refusal;
 use std::io;
 use std::io::Write;
@@ -23,11 +21,11 @@ fn line_room() -> [u8; 1280]
 
 // The lines of a file's suis, of which these years were kept.
 pub fn print_lines(rt: &impl Print, file: &[u8], years: &[i64]) -> io::Result<()> {
+    // Kept: fixed memory, no heap.
     let mut lines = line_room();
-    let answer = kept_years::list_years(file, years, &mut lines);
-    match answer {
-        WriteAnswer::Refused(r) => print_refusal(rt, r),
-        WriteAnswer::Written(n) => rt.write_all(&lines[..n]),
+    match kept_years::list_years(file, years, &mut lines) {
+        Err(r) => println!(rt; "R {r}"),
+        Ok(n) => rt.write_all(&lines[..n]),
     }
 }
 
@@ -39,14 +37,13 @@ pub fn print_refused(
     bytes: usize,
     zone: i64,
 ) -> io::Result<()> {
-    print_refusal(rt, r)?;
-    if r.number < 2 {
-        return Ok(());
+    println!(rt; "R {r}")?;
+    match r {
+        Refusal::Shape | Refusal::Coefficient(_) | Refusal::TooSlow(_) | Refusal::Joint(_) => {
+            print_series(rt, words, bytes, zone)
+        }
+        _ => Ok(()),
     }
-    if 5 < r.number {
-        return Ok(());
-    }
-    print_series(rt, words, bytes, zone)
 }
 
 // The new file: its lines, and its bytes.
@@ -66,13 +63,14 @@ pub fn print_rebuilt<W: Write>(
     zone: i64,
     out: &mut W,
 ) -> io::Result<()> {
+    // Kept: fixed memory, no heap.
     let mut file = file_room();
+    // Kept: fixed memory, no heap.
     let mut years = year_room();
-    let answer = rebuilding::rebuild_taken(
+    match rebuilding::rebuild_taken(
         old, oldwords, oldbytes, words, bytes, zone, &mut file, &mut years,
-    );
-    match answer {
-        RebuildAnswer::Refused(r) => print_refused(rt, r, words, bytes, zone),
-        RebuildAnswer::Rebuilt(n) => print_new(rt, &file[..n.bytes], &years[..n.years], out),
+    ) {
+        Err(r) => print_refused(rt, r, words, bytes, zone),
+        Ok(n) => print_new(rt, &file[..n.bytes], &years[..n.years], out),
     }
 }

@@ -28,6 +28,7 @@ pub fn rebuild_from<I: Read, W: Write>(
     zone: i64,
     out: &mut W,
 ) -> io::Result<()> {
+    // Kept: fixed memory, no heap.
     let mut file = old_room();
     let n = outside::read_full(old, &mut file)?;
     let mut oldwords = word_room();

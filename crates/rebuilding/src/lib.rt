@@ -3,13 +3,14 @@
 #![tactic(auto)]
 
 ghost use Rattle.std.specs.Prelude.{◌≡◌, length};
+ghost use Rattle.refusals.specs.Verdict.{paper};
 ghost use Rattle.refusals.specs.Lent.{written_into};
-ghost use Rattle.rebuilt.specs.Rebuild.{paper_rebuilt, counted, new_bytes, kept_years};
+ghost use Rattle.rebuilt.specs.Rebuild.{counted, new_bytes, kept_years};
 ghost use Rattle.rebuilt_from.specs.RebuiltFrom.{rebuilt_from_taken};
 
 use conversion::inner::is_zone;
-use layout::inner::PlacesAnswer;
-use rebuilt::RebuildAnswer;
+use rebuilt::Rebuilt;
+use refusals::Refusal;
 
 mod sections;
 
@@ -24,28 +25,24 @@ pub fn rebuild_taken(
     zone: i64,
     file: &mut [u8],
     years: &mut [i64],
-) -> RebuildAnswer
-    ensures result_value { paper_rebuilt result ≡ counted (rebuilt_from_taken old.now oldwords.now oldbytes words.now bytes zone (length file.old) (length years.old)) }
+) -> Result<Rebuilt, Refusal>
+    ensures result_value { paper result ≡ counted (rebuilt_from_taken old.now oldwords.now oldbytes words.now bytes zone (length file.old) (length years.old)) }
     ensures file_after { file.new ≡ written_into (rebuilt_from_taken old.now oldwords.now oldbytes words.now bytes zone (length file.old) (length years.old)) new_bytes file.old }
     ensures years_after { years.new ≡ written_into (rebuilt_from_taken old.now oldwords.now oldbytes words.now bytes zone (length file.old) (length years.old)) kept_years years.old }
 {
     if !is_zone(zone) {
-        return RebuildAnswer::Refused(refusals::ZONE);
+        return Err(Refusal::Zone);
     }
-    match sections::find_sections(oldwords, oldbytes) {
-        PlacesAnswer::Refused(r) => RebuildAnswer::Refused(r),
-        PlacesAnswer::Found(oldplaces) => match sections::find_sections(words, bytes) {
-            PlacesAnswer::Refused(r) => RebuildAnswer::Refused(r),
-            PlacesAnswer::Found(places) => sections::rebuild_sections(
-                old,
-                &oldwords[2..oldbytes / 8],
-                oldplaces,
-                &words[2..bytes / 8],
-                places,
-                zone,
-                file,
-                years,
-            ),
-        },
-    }
+    let oldplaces = sections::find_sections(oldwords, oldbytes)?;
+    let places = sections::find_sections(words, bytes)?;
+    sections::rebuild_sections(
+        old,
+        &oldwords[2..oldbytes / 8],
+        oldplaces,
+        &words[2..bytes / 8],
+        places,
+        zone,
+        file,
+        years,
+    )
 }

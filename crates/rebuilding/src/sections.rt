@@ -1,25 +1,27 @@
 // The sections of inputs whose words were taken.
 ghost use Rattle.std.specs.Prelude.{◌≡◌, length};
 ghost use Rattle.refusals.specs.Lent.{written_into};
-ghost use Rattle.layout.specs.Layout.{paper_places, inputs_at};
-ghost use Rattle.rebuilt.specs.Rebuild.{rebuilt, paper_rebuilt, counted, new_bytes, kept_years};
+ghost use Rattle.refusals.specs.Verdict.{paper};
+ghost use Rattle.layout.specs.Layout.{inputs_at};
+ghost use Rattle.rebuilt.specs.Rebuild.{rebuilt, counted, new_bytes, kept_years};
 ghost use Rattle.rebuilt_from.specs.theory.Cases.{places_taken, Sections};
 
 use building::inner::all_taken;
-use layout::inner::{Places, PlacesAnswer, find_places};
-use rebuilt::RebuildAnswer;
+use layout::inner::{Places, find_places};
+use rebuilt::Rebuilt;
+use refusals::Refusal;
 use times::Second;
 
 // Where they stand behind first Y and count; 13 where the input breaks its layout.
-pub fn find_sections(words: &[i64], bytes: usize) -> PlacesAnswer
-    ensures { paper_places result ≡ places_taken words.now bytes }
+pub fn find_sections(words: &[i64], bytes: usize) -> Result<Places, Refusal>
+    ensures { paper result ≡ places_taken words.now bytes }
 {
     if !all_taken(words, bytes) {
-        return PlacesAnswer::Refused(refusals::LAYOUT);
+        return Err(Refusal::Layout);
     }
     let end = bytes / 8;
     if end < 2 {
-        return PlacesAnswer::Refused(refusals::LAYOUT);
+        return Err(Refusal::Layout);
     }
     find_places(&words[2..end])
 }
@@ -34,10 +36,10 @@ pub fn rebuild_sections(
     zone: i64,
     file: &mut [u8],
     years: &mut [i64],
-) -> RebuildAnswer
+) -> Result<Rebuilt, Refusal>
     requires sections { Sections oldwords.now oldplaces }
     requires sections_2 { Sections words.now places }
-    ensures result_value { paper_rebuilt result ≡ counted (rebuilt (inputs_at oldwords.now oldplaces) (inputs_at words.now places) zone old.now (length file.old) (length years.old)) }
+    ensures result_value { paper result ≡ counted (rebuilt (inputs_at oldwords.now oldplaces) (inputs_at words.now places) zone old.now (length file.old) (length years.old)) }
     ensures file_after { file.new ≡ written_into (rebuilt (inputs_at oldwords.now oldplaces) (inputs_at words.now places) zone old.now (length file.old) (length years.old)) new_bytes file.old }
     ensures years_after { years.new ≡ written_into (rebuilt (inputs_at oldwords.now oldplaces) (inputs_at words.now places) zone old.now (length file.old) (length years.old)) kept_years years.old }
 {

@@ -1,10 +1,10 @@
 -- What is proved of the rebuild, over its definitions (document 02, order 1): its file is the fresh build of the new inputs; which old files the old inputs give, and
 -- 13 for every other; which years are listed, in rising order; that nothing of the old file is taken but records of those suis; one result. Assumes nothing but what
 -- a statement says itself.
-use Rattle.std.specs.Prelude.{◌≡◌, Bool, true, false, cond, List, ◌++◌, ◌↔◌, ℕ, zero, suc, ◌+◌, ◌*◌, ◌≤◌, ◌<◌, ltb, ℤ, pos, nat_abs, ◌+ℤ◌, length, get_or, take, ◌<ℤ◌}
+use Rattle.std.specs.Prelude.{◌≡◌, Bool, true, false, cond, List, ◌++◌, ◌↔◌, ℕ, zero, suc, ◌+◌, ◌*◌, ◌≤◌, ◌<◌, ltb, ℤ, pos, nat_abs, ◌+ℤ◌, length, get_or, take, ◌<ℤ◌, Result}
 use Rattle.std.proofs.Math.Path.{refl}
 use Rattle.std.proofs.Common.{sym, ap, ap₂, subst, ◌∙◌, arith, take-suc, take_all}
-use Rattle.refusals.specs.Verdict.{Verdict, answered, refused, OneToOne, then_answered, test_answered, before_answered, answers_apart, answer_or_refusal, refusals_apart, one_result, one_content, ◌then◌}
+use Rattle.refusals.specs.Verdict.{Verdict, answered, refused, OneToOne, then_answered, test_answered, before_answered, answers_apart, one_result, one_content, ◌then◌, paper, results_apart}
 use Rattle.refusals.specs.Lent.{written_into}
 use Rattle.clock.specs.Clock.{is_zone}
 use Rattle.clock.specs.Answers.{zone_judged}
@@ -23,14 +23,15 @@ use Rattle.built.specs.Theorems.{built_is_read}
 use Rattle.built.specs.theory.Records.{sui_at}
 use Rattle.built.specs.theory.Words.{month_words_snoc}
 use Rattle.built.specs.theory.Years.{suis_are}
-use Rattle.rebuilt.specs.declared.RebuildAnswer.{RebuildAnswer}
-use Rattle.rebuilt.specs.declared.RebuildAnswer.TheVariants as rebuild-answer
-use Rattle.rebuilt.specs.Rebuild.{Years, NewFile, new_file_by, rebuilt_by, most_bytes, given, kept_by, kept, rebuilt, paper_rebuilt, counted, new_bytes, kept_years}
+use Rattle.rebuilt.specs.declared.Years.{Years}
+use Rattle.rebuilt.specs.Rebuild.{NewFile, new_file_by, rebuilt_by, most_bytes, given, kept_by, kept, rebuilt, counted, new_bytes, kept_years}
 use Rattle.rebuilt.specs.theory.Given.{Given, given_tells, given_when, not_given, built_in_zone, built_is_given, count_built, room_enough}
 use Rattle.rebuilt.proofs.theory.Kept.{fourteen_moons, same_days_lem, both_found, kept_when}
 use Rattle.rebuilt.proofs.theory.Listed.{StandsIn, KeptYear, years_of}
 use Rattle.rebuilt.specs.theory.Records.{words_in_turn, fewer_found, own_words, words_before}
 use Rattle.rebuilt.specs.Theorems.{taken}
+use Rattle.rebuilt.specs.declared.Rebuilt.{Rebuilt}
+use Rattle.refusals.specs.declared.Refusal.{Refusal}
 
 -- ---- "a file of the same suis, equal byte for byte to a fresh build"
 pub record Fresh (old new : Inputs) (zone : ℤ) (file : List ℕ) (room : ℕ) (n : NewFile) : Type 0 where
@@ -198,15 +199,12 @@ old_records_in_file old zone file {y} e =
     }
 
 -- ---- one result: any two answers that the rebuild may give are the same, and so is what each lent place holds
-pub rebuilt_apart : OneToOne paper_rebuilt
-rebuilt_apart (rebuild-answer.Rebuilt a) (rebuild-answer.Rebuilt b) e = ap rebuild-answer.Rebuilt (answers_apart e)
-rebuilt_apart (rebuild-answer.Rebuilt a) (rebuild-answer.Refused s) e = answer_or_refusal e
-rebuilt_apart (rebuild-answer.Refused r) (rebuild-answer.Rebuilt b) e = answer_or_refusal (sym e)
-rebuilt_apart (rebuild-answer.Refused r) (rebuild-answer.Refused s) e = ap rebuild-answer.Refused (refusals_apart r s e)
+pub rebuilt_apart : OneToOne (paper {A = Rebuilt})
+rebuilt_apart = results_apart
 
 module _ (old new : Inputs) (zone : ℤ) (file : List ℕ) where
-  pub rebuild_one_result : (room places : ℕ) (a b : RebuildAnswer) → paper_rebuilt a ≡ counted (rebuilt old new zone file room places) → paper_rebuilt b ≡ counted (rebuilt old new zone file room places) → a ≡ b
-  rebuild_one_result room places a b p q = one_result paper_rebuilt rebuilt_apart a b p q
+  pub rebuild_one_result : (room places : ℕ) (a b : Result Rebuilt Refusal) → paper a ≡ counted (rebuilt old new zone file room places) → paper b ≡ counted (rebuilt old new zone file room places) → a ≡ b
+  rebuild_one_result room places a b p q = one_result paper rebuilt_apart a b p q
 
   -- the lent bytes, and the lent list of years
   pub rebuild_one_content : (lent : List ℕ) (places : ℕ) (a b : List ℕ) → a ≡ written_into (rebuilt old new zone file (length lent) places) new_bytes lent → b ≡ written_into (rebuilt old new zone file (length lent) places) new_bytes lent → a ≡ b

@@ -24,7 +24,8 @@ use Rattle.almanac.specs.Fields.{times, numbers_in, bytes_for}
 use Rattle.almanac.specs.Layout.{end_at, bytes_of, counts_of, content_at, content_of, file_of}
 use Rattle.built.specs.Build.{months_in, words_of}
 use Rattle.rebuilt.specs.declared.Rebuilt.{Rebuilt}
-use Rattle.rebuilt.specs.Rebuild.{Years, given_by, days_words, same_days, is_kept, kept_by, NewFile, new_file_by, rebuilt_by, rebuilt, most_bytes, counted, new_bytes, kept_years}
+use Rattle.rebuilt.specs.declared.Years.{Years}
+use Rattle.rebuilt.specs.Rebuild.{given_by, days_words, same_days, is_kept, kept_by, NewFile, new_file_by, rebuilt_by, rebuilt, most_bytes, counted, new_bytes, kept_years}
 use Rattle.rebuilt.specs.Theorems.{taken}
 
 -- ---- how the examples are written

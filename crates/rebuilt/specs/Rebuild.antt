@@ -2,7 +2,7 @@
 -- they were. Assumes nothing: these are definitions.
 use Rattle.std.specs.Prelude.{Bool, false, cond, not, List, [], ◌∷◌, ◌++◌, ℕ, zero, suc, ltb, ℤ, pos, ◌+ℤ◌, length}
 use Rattle.whole.specs.Evaluated.{same_numbers, same_words}
-use Rattle.refusals.specs.Verdict.{Verdict, answered, refused, refuse_when, refusal, ◌before◌, ◌then◌}
+use Rattle.refusals.specs.Verdict.{Verdict, answered, refused, refuse_when, ◌before◌, ◌then◌}
 use Rattle.clock.specs.Answers.{zone_judged}
 use Rattle.inputs.specs.Inputs.{Inputs}
 use Rattle.months.specs.declared.SuiDays.{SuiDays}
@@ -11,15 +11,10 @@ use Rattle.content.specs.Content.{Content, sui_count, year_at}
 use Rattle.almanac.specs.Layout.{file_of}
 use Rattle.built.specs.Build.{bytes_of_years, bytes_built}
 use Rattle.rebuilt.specs.declared.Rebuilt.{Rebuilt}
-use Rattle.rebuilt.specs.declared.RebuildAnswer.{RebuildAnswer}
-use Rattle.rebuilt.specs.declared.RebuildAnswer.TheVariants as rebuild-answer
+use Rattle.rebuilt.specs.declared.Years.{Years}
 
 -- ---- the old file: "13 first, when the old file is not one that the old inputs give"
--- the years of a file: the first, and how many
-pub record Years : Type 0 where
-  pub first : ℤ
-  pub count : ℕ
-
+-- the years of a file
 abbrev pub years_in : Content → Years
 years_in c = record { first = year_at c.suis 0; count = sui_count c }
 
@@ -82,10 +77,6 @@ module _ (old new : Inputs) (zone : ℤ) where
   new_file first n room places = new_file_by (bytes_of_years new zone first n room) (kept_by kept first n) places
 
 -- ---- the answer on paper, and what the lent places hold
-abbrev pub paper_rebuilt : RebuildAnswer → Verdict Rebuilt
-paper_rebuilt (rebuild-answer.Rebuilt r) = answered r
-paper_rebuilt (rebuild-answer.Refused r) = refusal r
-
 abbrev pub counted : Verdict NewFile → Verdict Rebuilt
 counted v = v then λ n. answered (record { bytes = length n.bytes; years = length n.years })
 

@@ -2,17 +2,16 @@
 // with examples and theorems. Nothing here runs: the functions are those of `rebuild`.
 #![tactic(auto)]
 
-use refusals::Refusal;
+// The years of a file: the first, and how many.
+#[derive(Clone, Copy)]
+pub struct Years {
+    pub first: i64,
+    pub count: usize,
+}
 
 // How many bytes the new file has, and how many years were listed.
 #[derive(Clone, Copy)]
 pub struct Rebuilt {
     pub bytes: usize,
     pub years: usize,
-}
-
-#[derive(Clone, Copy)]
-pub enum RebuildAnswer {
-    Rebuilt(Rebuilt),
-    Refused(Refusal),
 }

@@ -1,15 +1,9 @@
 -- A sui's months stored into a lent list of records: its own refusal, then 12 where the list has fewer places than there are records. Assumes nothing: these are
 -- definitions.
 use Rattle.std.specs.Prelude.{List, ℕ, ltb, length, take}
-use Rattle.refusals.specs.Verdict.{Verdict, answered, refused, refusal, refuse_when, ◌before◌, ◌then◌}
+use Rattle.refusals.specs.Verdict.{Verdict, answered, refused, refuse_when, ◌before◌, ◌then◌}
 use Rattle.months.specs.declared.Month.{Month}
 use Rattle.months.specs.declared.Sui.{Sui}
-use Rattle.records.specs.declared.MonthsAnswer.{MonthsAnswer}
-use Rattle.records.specs.declared.MonthsAnswer.TheVariants as months-answer
-
-abbrev pub paper_months : MonthsAnswer → Verdict ℕ
-paper_months (months-answer.Months n) = answered n
-paper_months (months-answer.Refused r) = refusal r
 
 -- the records of a sui
 abbrev pub records_of : Sui → List Month

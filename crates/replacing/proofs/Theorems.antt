@@ -1,9 +1,9 @@
 -- What is proved of a replacement, over its definition: a refusal changes nothing; answered exactly where the segment is there and the new series is accepted, and then
 -- that segment is the part and every other is as before; one result. Assumes nothing but what a statement says itself.
-use Rattle.std.specs.Prelude.{◌≡◌, ◌↔◌, List, ℕ, ◌<◌, leb, ℤ, length}
+use Rattle.std.specs.Prelude.{◌≡◌, ◌↔◌, List, ℕ, ◌<◌, leb, ℤ, length, Result}
 use Rattle.std.proofs.Common.{ap, subst, ◌∙◌, leb-false}
-use Rattle.refusals.specs.declared.Check.{Check}
-use Rattle.refusals.specs.Verdict.{Verdict, answered, refused, ◌before◌, paper_check, checks_apart, one_result, one_content, test_answered, answered_says}
+use Rattle.refusals.specs.Verdict.{Verdict, answered, refused, ◌before◌, checks_apart, one_result, one_content, test_answered, answered_says, paper}
+use Rattle.refusals.specs.declared.Refusal.{Refusal}
 use Rattle.series.specs.Series.{Series, series, segment, segments}
 use Rattle.series.specs.Acceptance.{Accepted, series_judged}
 use Rattle.replacing.specs.Replaced.{replaced, series_with, segment_replaced, segment_checked, held_after}
@@ -47,8 +47,8 @@ module _ (s : Series) (k : ℕ) (part : List ℤ) where
       })
 
   -- ---- one result: any two answers that it may give are the same, and so is what the lent coefficients are
-  pub replace_segment_one_result : (a b : Check) → paper_check a ≡ segment_checked s k part → paper_check b ≡ segment_checked s k part → a ≡ b
-  replace_segment_one_result a b p q = one_result paper_check checks_apart a b p q
+  pub replace_segment_one_result : (a b : Result (Unit {0}) Refusal) → paper a ≡ segment_checked s k part → paper b ≡ segment_checked s k part → a ≡ b
+  replace_segment_one_result a b p q = one_result paper checks_apart a b p q
 
   pub replace_segment_one_content : (a b : List ℤ) → a ≡ held_after (segment_replaced s k part) s.coefs → b ≡ held_after (segment_replaced s k part) s.coefs → a ≡ b
   replace_segment_one_content a b p q = one_content a b p q

@@ -2,11 +2,11 @@
 #![tactic(auto)]
 
 ghost use Rattle.std.specs.Prelude.{◌≡◌};
-ghost use Rattle.refusals.specs.Verdict.{paper_check};
+ghost use Rattle.refusals.specs.Verdict.{paper};
 ghost use Rattle.series.specs.Series.{series};
 ghost use Rattle.replacing.specs.Replaced.{segment_replaced, segment_checked, held_after};
 
-use refusals::Check;
+use refusals::Refusal;
 use series::Body;
 use times::Second;
 
@@ -20,19 +20,18 @@ pub fn replace_segment(
     coefs: &mut [i64],
     number: usize,
     part: [i64; 14],
-) -> Check
-    ensures result_value { paper_check result ≡ segment_checked (series body start.0 coefs.old) number part }
+) -> Result<(), Refusal>
+    ensures result_value { paper result ≡ segment_checked (series body start.0 coefs.old) number part }
     ensures coefs_after { coefs.new ≡ held_after (segment_replaced (series body start.0 coefs.old) number part) coefs.old }
 {
     if coefs.len() / 14 <= number {
-        return Check::Refused(refusals::OUTSIDE);
+        return Err(Refusal::Outside);
     }
     let before = parts::part_of(coefs, number);
     parts::put(coefs, number, part);
     let judged = acceptance::accept(body, start, coefs);
-    if let Check::Refused(r) = judged {
+    if judged.is_err() {
         parts::put(coefs, number, before);
-        return Check::Refused(r);
     }
-    Check::Accepted
+    judged
 }

@@ -10,11 +10,7 @@ pub fn part_of(coefs: &[i64], k: usize) -> [i64; 14]
 {
     let first = 14 * k;
     let mut part: [i64; 14] = [0; 14];
-    let mut i: usize = 0;
-    while i < 14 {
-        part[i] = coefs[first + i];
-        i += 1;
-    }
+    part.copy_from_slice(&coefs[first..first + 14]);
     part
 }
 
@@ -24,9 +20,5 @@ pub fn put(coefs: &mut [i64], k: usize, part: [i64; 14])
     ensures { coefs.new ≡ replaced coefs.old k part }
 {
     let first = 14 * k;
-    let mut i: usize = 0;
-    while i < 14 {
-        coefs[first + i] = part[i];
-        i += 1;
-    }
+    coefs[first..first + 14].copy_from_slice(&part);
 }

@@ -2,13 +2,11 @@
 -- then 4 over all; then 5 over all joints. Assumes nothing: these are definitions.
 use Rattle.std.specs.Prelude.{◌≡◌, Bool, not, ◌||◌, List, ℕ, ◌*◌, ◌-◌, ◌%◌, ltb, eqb, ℤ, pos, neg_ℤ, ◌-ℤ◌, length}
 use Rattle.std.specs.Int.Signed.{lt_z}
-use Rattle.refusals.specs.Verdict.{Verdict, answered, accepted, refuse_when, refusal, ◌before◌}
+use Rattle.refusals.specs.Verdict.{Verdict, answered, accepted, refuse_when, ◌before◌}
 use Rattle.refusals.specs.Search.{first_bad}
 use Rattle.chebyshev.specs.Polynomials.{S}
 use Rattle.chebyshev.specs.Segment.{value, slope, out_of_range}
 use Rattle.series.specs.declared.Body.{Body}
-use Rattle.series.specs.declared.ValueAnswer.{ValueAnswer}
-use Rattle.series.specs.declared.ValueAnswer.TheVariants.{Value, Refused}
 use Rattle.series.specs.Bodies.{numbers}
 use Rattle.series.specs.Series.{Series, segment, segments, covers, value_at}
 
@@ -58,7 +56,3 @@ value_of s second =
     series_judged s
     before refuse_when (not (covers s second)) 6
     before answered (value_at s second)
-
-abbrev pub paper_value : ValueAnswer → Verdict ℤ
-paper_value (Value v) = answered v
-paper_value (Refused r) = refusal r

@@ -2,16 +2,8 @@
 // with examples and theorems (document 01, "Segments"). Nothing here runs: the functions are those of `acceptance`.
 #![tactic(auto)]
 
-use refusals::Refusal;
-
 #[derive(Clone, Copy)]
 pub enum Body {
     Sun,
     Moon,
-}
-
-#[derive(Clone, Copy)]
-pub enum ValueAnswer {
-    Value(i64),
-    Refused(Refusal),
 }

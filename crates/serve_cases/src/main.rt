@@ -5,8 +5,9 @@
 
 ghost use Rattle.std.specs.Prelude.{◌≡◌, ◌≤◌, length};
 
+use refusals::Refusal;
 use series::Body;
-use served::ServesAnswer;
+use served::{Served, Side};
 use std::io;
 use times::Second;
 
@@ -26,15 +27,13 @@ fn print(rt: &impl Print, n: i64) -> io::Result<()> {
     print!(rt; "{n}")
 }
 
-fn print_answer(rt: &impl Print, answer: ServesAnswer) -> io::Result<()> {
+fn print_answer(rt: &impl Print, answer: Result<Served, Refusal>) -> io::Result<()> {
     match answer {
-        ServesAnswer::Near(k) => print!(rt; "near {k}"),
-        ServesAnswer::Long(k) => print!(rt; "long {k}"),
-        ServesAnswer::Refused(r) => {
-            let number = r.number;
-            let segment = r.segment;
-            print!(rt; "R {number} {segment}")
-        }
+        Ok(served) => match served.side {
+            Side::Near => print!(rt; "near {}", served.segment),
+            Side::Long => print!(rt; "long {}", served.segment),
+        },
+        Err(r) => print!(rt; "R {} {}", r.number(), r.segment()),
     }
 }
 

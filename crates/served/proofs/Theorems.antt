@@ -13,14 +13,17 @@ use Rattle.series.specs.Acceptance.{Accepted, series_judged, value_of}
 use Rattle.series.proofs.theory.Known.{segment_length_lem}
 use Rattle.series.proofs.theory.Refused.{refused_by_two_to_five}
 use Rattle.series.proofs.theory.Span.{covers_says, says_covers, not_covers_says, says_not_covers, segment_in_span}
-use Rattle.served.specs.Served.{Side, near, long, chosen, Served, served_by, choice, serves, part_served, IsPart}
+use Rattle.served.specs.declared.Served.{Served}
+use Rattle.served.specs.declared.Side.{Side}
+use Rattle.served.specs.declared.Side.TheVariants.{Near, Long}
+use Rattle.served.specs.Served.{chosen, served_by, choice, serves, part_served, IsPart}
 use Rattle.served.proofs.theory.Cases.{near_serves, long_serves, none_serves}
 
 -- ---- the statements
 -- near serves where it covers the second; long where it does, and near does not
 abbrev pub Covering : Series → Series → ℤ → Side → Type 0
-Covering n l second near = InSpan n second
-Covering n l second long = (InSpan n second → ⊥) × InSpan l second
+Covering n l second Near = InSpan n second
+Covering n l second Long = (InSpan n second → ⊥) × InSpan l second
 
 pub record Serves (n l : Series) (second : ℤ) (g : Served) : Type 0 where
   pub near_accepted : Accepted n
@@ -43,24 +46,24 @@ module _ (n l : Series) (second : ℤ) where
       let b = before_answered (series_judged l) (choice n l second) a.1 in
       go a.0 b.0 (covers n second) refl (covers l second) refl b.1
     where
-      go : Accepted n → Accepted l → (x : Bool) → covers n second ≡ x → (y : Bool) → covers l second ≡ y → cond x (answered (served_by near n second)) (cond y (answered (served_by long l second)) (refused 18 0)) ≡ answered g → Serves n l second g
+      go : Accepted n → Accepted l → (x : Bool) → covers n second ≡ x → (y : Bool) → covers l second ≡ y → cond x (answered (served_by Near n second)) (cond y (answered (served_by Long l second)) (refused 18 0)) ≡ answered g → Serves n l second g
       go p q true h y k f = subst (Serves n l second) (answers_apart f) (record { near_accepted = p; long_accepted = q; covering = covers_says n h; its_segment = refl })
       go p q false h true k f = subst (Serves n l second) (answers_apart f) (record { near_accepted = p; long_accepted = q; covering = (not_covers_says n h, covers_says l k); its_segment = refl })
       go p q false h false k f = answer_or_refusal (sym f)
 
   says_served : (side : Side) (k : ℕ) → Serves n l second (record { side = side; segment = k }) → serves n l second ≡ answered (record { side = side; segment = k })
-  says_served near k s = near_serves n l second s.near_accepted s.long_accepted (says_covers n s.covering) ∙ ap (λ (i : ℕ). answered (record { side = near; segment = i })) (sym s.its_segment)
-  says_served long k s =
+  says_served Near k s = near_serves n l second s.near_accepted s.long_accepted (says_covers n s.covering) ∙ ap (λ (i : ℕ). answered (record { side = Near; segment = i })) (sym s.its_segment)
+  says_served Long k s =
       long_serves n l second s.near_accepted s.long_accepted (says_not_covers n s.covering.0) (says_covers l s.covering.1)
-      ∙ ap (λ (i : ℕ). answered (record { side = long; segment = i })) (sym s.its_segment)
+      ∙ ap (λ (i : ℕ). answered (record { side = Long; segment = i })) (sym s.its_segment)
 
   pub served_exactly_when : (g : Served) → serves n l second ≡ answered g ↔ Serves n l second g
   served_exactly_when g = (served_says g, says_served g.side g.segment)
 
   -- it has the segment
   by_side : (side : Side) (k : ℕ) → Serves n l second (record { side = side; segment = k }) → k < segments (chosen side n l).coefs
-  by_side near k s = subst (λ (i : ℕ). i < segments n.coefs) (sym s.its_segment) (segment_in_span n s.near_accepted s.covering)
-  by_side long k s = subst (λ (i : ℕ). i < segments l.coefs) (sym s.its_segment) (segment_in_span l s.long_accepted s.covering.1)
+  by_side Near k s = subst (λ (i : ℕ). i < segments n.coefs) (sym s.its_segment) (segment_in_span n s.near_accepted s.covering)
+  by_side Long k s = subst (λ (i : ℕ). i < segments l.coefs) (sym s.its_segment) (segment_in_span l s.long_accepted s.covering.1)
 
   pub segment_there : {g : Served} → serves n l second ≡ answered g → g.segment < segments (chosen g.side n l).coefs
   segment_there {g} e = by_side g.side g.segment (served_says g e)
@@ -80,7 +83,7 @@ module _ (n l : Series) (second : ℤ) where
       let b = passed l (choice n l second) a.1 in
       go a.0 b.0 (covers n second) refl (covers l second) refl b.1
     where
-      go : Accepted n → Accepted l → (x : Bool) → covers n second ≡ x → (y : Bool) → covers l second ≡ y → cond x (answered (served_by near n second)) (cond y (answered (served_by long l second)) (refused 18 0)) ≡ refused 18 0 → Unserved n l second
+      go : Accepted n → Accepted l → (x : Bool) → covers n second ≡ x → (y : Bool) → covers l second ≡ y → cond x (answered (served_by Near n second)) (cond y (answered (served_by Long l second)) (refused 18 0)) ≡ refused 18 0 → Unserved n l second
       go p q true h y k f = answer_or_refusal f
       go p q false h true k f = answer_or_refusal f
       go p q false h false k f = record { near_accepted = p; long_accepted = q; not_near = not_covers_says n h; not_long = not_covers_says l k }
@@ -94,8 +97,8 @@ module _ (n l : Series) (second : ℤ) where
   one_value s p i e = rw (p, says_covers s i, e)
 
   value_by_side : (side : Side) (k : ℕ) → Serves n l second (record { side = side; segment = k }) → value_of (chosen side n l) second ≡ answered (value (segment (chosen side n l).coefs k) (place_at (chosen side n l) second))
-  value_by_side near k s = one_value n s.near_accepted s.covering s.its_segment
-  value_by_side long k s = one_value l s.long_accepted s.covering.1 s.its_segment
+  value_by_side Near k s = one_value n s.near_accepted s.covering s.its_segment
+  value_by_side Long k s = one_value l s.long_accepted s.covering.1 s.its_segment
 
   pub value_by_the_segment : {g : Served} → serves n l second ≡ answered g → (let s = chosen g.side n l in value_of s second ≡ answered (value (segment s.coefs g.segment) (place_at s second)))
   value_by_the_segment {g} e = value_by_side g.side g.segment (served_says g e)
@@ -109,8 +112,8 @@ module _ (body : Body) (nearStart longStart : ℤ) (nears longs : Bor (List ℤ)
   l = series body longStart longs.now
 
   same_coefs : (side : Side) → (chosen side nears longs).now ≡ (chosen side n l).coefs
-  same_coefs near = refl
-  same_coefs long = refl
+  same_coefs Near = refl
+  same_coefs Long = refl
 
   module _ {part : Bor (List ℤ)} (is_part_lem : IsPart (part_served (serves n l second)) nears longs part) where
     part_is : {v : Verdict Served} → serves n l second ≡ v → IsPart (part_served v) nears longs part

@@ -2,12 +2,16 @@
 // runs: the functions are those of `serving`.
 #![tactic(auto)]
 
-use refusals::Refusal;
+// "Two series, one near and one long."
+#[derive(Clone, Copy, Debug, PartialEq, Eq)]
+pub enum Side {
+    Near,
+    Long,
+}
 
-// Near or long, each with the segment that covers the second, counted from 0.
-#[derive(Clone, Copy)]
-pub enum ServesAnswer {
-    Near(usize),
-    Long(usize),
-    Refused(Refusal),
+// Which of the two serves, and by which of its segments, counted from 0.
+#[derive(Clone, Copy, Debug, PartialEq, Eq)]
+pub struct Served {
+    pub side: Side,
+    pub segment: usize,
 }

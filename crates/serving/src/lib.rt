@@ -2,13 +2,14 @@
 #![tactic(auto)]
 
 ghost use Rattle.std.specs.Prelude.{◌≡◌};
+ghost use Rattle.refusals.specs.Verdict.{paper};
 ghost use Rattle.series.specs.Series.{series};
-ghost use Rattle.served.specs.Served.{serves, paper_serves, part_served, IsPart};
+ghost use Rattle.served.specs.Served.{serves, part_served, IsPart};
 
 use acceptance::inner::{covers, segment_at, segment_of};
-use refusals::Check;
+use refusals::Refusal;
 use series::Body;
-use served::ServesAnswer;
+use served::{Served, Side};
 use times::Second;
 
 // Near, if that covers the second, and otherwise long, with the segment that has it. Refused by 2 to 5 for the near series, then for the long one; then by 18, where
@@ -20,24 +21,24 @@ pub fn serves(
     longstart: Second,
     long: &[i64],
     second: Second,
-) -> ServesAnswer
-    ensures { paper_serves result ≡ serves (series body nearstart.0 near.now) (series body longstart.0 long.now) second.0 }
+) -> Result<Served, Refusal>
+    ensures { paper result ≡ serves (series body nearstart.0 near.now) (series body longstart.0 long.now) second.0 }
 {
-    let near_check = acceptance::accept(body, nearstart, near);
-    if let Check::Refused(r) = near_check {
-        return ServesAnswer::Refused(r);
-    }
-    let long_check = acceptance::accept(body, longstart, long);
-    if let Check::Refused(r) = long_check {
-        return ServesAnswer::Refused(r);
-    }
+    acceptance::accept(body, nearstart, near)?;
+    acceptance::accept(body, longstart, long)?;
     if covers(body, nearstart, near, second) {
-        return ServesAnswer::Near(segment_at(body, nearstart, second));
+        return Ok(Served {
+            side: Side::Near,
+            segment: segment_at(body, nearstart, second),
+        });
     }
     if covers(body, longstart, long, second) {
-        return ServesAnswer::Long(segment_at(body, longstart, second));
+        return Ok(Served {
+            side: Side::Long,
+            segment: segment_at(body, longstart, second),
+        });
     }
-    ServesAnswer::Refused(refusals::NOT_COVERED)
+    Err(Refusal::NotCovered)
 }
 
 // The coefficients of that segment: a part of the caller's own series, and no copy. After a refusal, which `serves` tells, the part is empty.
@@ -52,8 +53,10 @@ pub fn serving_part<'a>(
     ensures { IsPart (part_served (serves (series body nearstart.0 near.now) (series body longstart.0 long.now) second.0)) near.entry long.entry result }
 {
     match serves(body, nearstart, near, longstart, long, second) {
-        ServesAnswer::Near(k) => segment_of(near, k),
-        ServesAnswer::Long(k) => segment_of(long, k),
-        ServesAnswer::Refused(_) => &near[0..0],
+        Ok(served) => match served.side {
+            Side::Near => segment_of(near, served.segment),
+            Side::Long => segment_of(long, served.segment),
+        },
+        Err(_) => &near[0..0],
     }
 }

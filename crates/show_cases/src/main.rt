@@ -3,25 +3,7 @@
 #![tactic(auto)]
 
 use std::io;
-use std::rt::{Env, Files};
-
-// Shows the file that argument i names.
-fn show_case(rt: &(impl Env + Files + Print), i: usize) -> io::Result<()> {
-    print!(rt; "# ")?;
-    outside::print_argument(rt, i)?;
-    println!(rt)?;
-    match outside::open_argument(rt, i) {
-        Err(_) => println!(rt; "cannot be read"),
-        Ok(mut file) => show_run::show_from(rt, &mut file),
-    }
-}
 
 fn main(rt: HostRuntime) -> io::Result<()> {
-    for i in 1..usize::MAX {
-        if !outside::has_argument(&rt, i) {
-            break;
-        }
-        show_case(&rt, i)?;
-    }
-    Ok(())
+    outside::each_file(&rt, |rt, file| show_run::show_from(rt, file))
 }

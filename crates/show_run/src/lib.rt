@@ -3,7 +3,6 @@
 
 ghost use Rattle.std.specs.Prelude.{◌≡◌, length};
 
-use showing::ShowAnswer;
 use std::io;
 use std::io::Read;
 
@@ -21,23 +20,20 @@ fn text_room() -> [u8; 73260]
     [0; 73260]
 }
 
-// Prints R and the number.
-fn print_refusal(rt: &impl Print, number: u8) -> io::Result<()> {
-    println!(rt; "R {number}")
-}
-
-// Prints the text of these bytes.
+// Prints the text of these bytes, or R and the number of the refusal.
 fn print_text(rt: &impl Print, file: &[u8]) -> io::Result<()> {
+    // Kept: fixed memory, no heap.
     let mut out = text_room();
-    let answer = showing::show(file, &mut out);
-    match answer {
-        ShowAnswer::Refused(r) => print_refusal(rt, r.number),
-        ShowAnswer::Shown(bytes) => rt.write_all(&out[..bytes]),
+    match showing::show(file, &mut out) {
+        Ok(bytes) => rt.write_all(&out[..bytes]),
+        Err(r) => println!(rt; "R {r}"),
     }
 }
 
 // Shows the file that an input is.
+// Kept: a room of its own size, and then its own printing; what is the same is `outside::read_full`.
 pub fn show_from<I: Read>(rt: &impl Print, input: &mut I) -> io::Result<()> {
+    // Kept: fixed memory, no heap.
     let mut file = file_room();
     let n = outside::read_full(input, &mut file)?;
     print_text(rt, &file[..n])

@@ -1,15 +1,9 @@
 -- What `show` answers, on paper, and what the lent room holds afterwards: 13 for bytes that are no lawful file, then 12 where the room has fewer places than the whole
 -- text. Assumes nothing: these are definitions.
 use Rattle.std.specs.Prelude.{List, ℕ, ltb, length}
-use Rattle.refusals.specs.Verdict.{Verdict, answered, refusal, refuse_when, ◌before◌, ◌then◌}
+use Rattle.refusals.specs.Verdict.{Verdict, answered, refuse_when, ◌before◌, ◌then◌}
 use Rattle.almanac.specs.Layout.{file_of}
-use Rattle.showing.specs.declared.ShowAnswer.{ShowAnswer}
-use Rattle.showing.specs.declared.ShowAnswer.TheVariants as show-answer
 use Rattle.showing.specs.Shown.{text_of}
-
-abbrev pub paper_shown : ShowAnswer → Verdict ℕ
-paper_shown (show-answer.Shown bytes) = answered bytes
-paper_shown (show-answer.Refused r) = refusal r
 
 -- a text put into so much room
 abbrev pub text_into : List ℕ → ℕ → Verdict (List ℕ)

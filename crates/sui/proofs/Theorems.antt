@@ -1,23 +1,21 @@
 -- What is proved of a sui of accepted inputs, over its definitions: its two solstices are 24 marks apart, the zhongqi between them are thirteen, every second
 -- mark; new-moon days rise; and the sui is what the month rule says of all listed new moons and those zhongqi, so that every theorem of `months` on a sui holds of
 -- it; one result. Assumes nothing.
-use Rattle.std.specs.Prelude.{◌≡◌, true, ℤ, ◌+ℤ◌, ◌-ℤ◌, length}
+use Rattle.std.specs.Prelude.{◌≡◌, true, ℤ, ◌+ℤ◌, ◌-ℤ◌, length, Result}
 use Rattle.std.proofs.Math.Path.{sym, ap}
 use Rattle.std.proofs.Common.{ap₂, ◌∙◌, arith}
 use Prim.Native.Nat.{ℕ, suc, ◌*◌, ◌<◌}
 use Rattle.std.proofs.Math.IntN.{pos}
 use Rattle.whole.specs.Tabulated.{tabulate, length_tabulate}
-use Rattle.refusals.specs.Verdict.{answered, ◌then◌, then_answered, one_content}
+use Rattle.refusals.specs.Verdict.{paper, answered, ◌then◌, then_answered, one_result, results_apart}
 use Rattle.marks.specs.Marks.{Mark}
 use Rattle.inputs.specs.Inputs.{Inputs, sun, day_of_mark}
 use Rattle.inputs.specs.Known.{Known}
 use Rattle.inputs.proofs.Theorems.{known}
 use Rattle.months.specs.declared.SuiDays.{SuiDays}
 use Rattle.months.specs.declared.Sui.{Sui}
-use Rattle.months.specs.declared.SuiAnswer.{SuiAnswer}
 use Rattle.months.specs.Months.{IsSuiDays, sui_of, sui_in}
 use Rattle.months.specs.Limits.{rising}
-use Rattle.months.specs.Answers.{sui_answer}
 use Rattle.months.proofs.Theorems.{Meet, months_meet, found_are_sui_days}
 use Rattle.months.proofs.theory.Suis.{IsSui}
 use Rattle.sui.specs.Sui.{new_moon_days, solstices_in, zhongqi_days, one_solstice, sui_days, sui_for}
@@ -27,6 +25,7 @@ use Rattle.sui.specs.theory.Solstices.{eve}
 use Rattle.sui.proofs.theory.Solstices.{solstice, solstices, solstice_day, solstices_by, one_circle_on, in_year_means, zhongqi_are}
 use Rattle.sui.proofs.theory.Found.{this}
 use Rattle.sui.proofs.theory.Apart.{new_moons_rise}
+use Rattle.refusals.specs.declared.Refusal.{Refusal}
 
 -- ---- the solstices of a sui
 module _ (i : Inputs) (zone : ℤ) (k : Known i) (year : ℤ) {first last : Mark} (one : one_solstice (solstices_in i zone (year -ℤ pos 1)) ≡ answered first) (two : one_solstice (solstices_in i zone year) ≡ answered last) where
@@ -95,6 +94,6 @@ sui_days_of_accepted i zone year k e =
     let found = days_found_lem i zone year e in
     found_are_sui_days (new_moon_days i zone) (zhongqi_days i zone found.first found.last) (new_moon_days_rise i zone k) (thirteen_zhongqi i zone k year found.is_first found.is_last) found.by_rule
 
--- ---- one result: any two answers that `sui` may give are the same, in every field
-pub sui_one_result : (i : Inputs) (zone year : ℤ) (a b : SuiAnswer) → a ≡ sui_answer (sui_for i zone year) → b ≡ sui_answer (sui_for i zone year) → a ≡ b
-sui_one_result i zone year a b p q = one_content a b p q
+-- ---- one result: any two answers that `sui` may give are the same
+pub sui_one_result : (i : Inputs) (zone year : ℤ) (a b : Result Sui Refusal) → paper a ≡ sui_for i zone year → paper b ≡ sui_for i zone year → a ≡ b
+sui_one_result i zone year a b p q = one_result paper results_apart a b p q

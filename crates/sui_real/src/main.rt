@@ -5,12 +5,10 @@
 
 ghost use Rattle.std.specs.Prelude.{◌≡◌, length};
 
-use dates::DateAnswer;
-use months::{Month, SuiAnswer};
-use refusals::Check;
+use months::{Month, Sui};
+use refusals::Refusal;
 use std::io;
 use std::io::Read;
-use std::rt::{Env, Files};
 use times::{Day, Second};
 
 // Room for an input of any length up to 64 KiB.
@@ -42,14 +40,14 @@ fn print_two(rt: &impl Print, n: i64) -> io::Result<()> {
 
 fn print_day(rt: &impl Print, day: Day) -> io::Result<()> {
     match dates::date_of(day) {
-        DateAnswer::Found(date) => {
+        Ok(date) => {
             print(rt, date.year)?;
             print!(rt; "-")?;
             print_two(rt, date.month)?;
             print!(rt; "-")?;
             print_two(rt, date.day)
         }
-        DateAnswer::Refused(_) => print!(rt; "no date"),
+        Err(_) => print!(rt; "no date"),
     }
 }
 
@@ -65,24 +63,19 @@ fn print_month(rt: &impl Print, year: i64, month: Month) -> io::Result<()> {
     println!(rt)
 }
 
-fn print_sui(rt: &impl Print, year: i64, found: SuiAnswer) -> io::Result<()> {
-    let check = found.check;
-    if let Check::Refused(r) = check {
-        let number = r.number;
-        print(rt, year)?;
-        return println!(rt; " R {number}");
-    }
-    let sui = found.sui;
-    let count = sui.count;
-    let mut i: usize = 0;
-    while i < 13 {
-        if count <= i {
-            return Ok(());
+fn print_sui(rt: &impl Print, year: i64, found: Result<Sui, Refusal>) -> io::Result<()> {
+    match found {
+        Ok(sui) => {
+            for month in sui.months.iter().take(sui.count) {
+                print_month(rt, year, *month)?;
+            }
+            Ok(())
         }
-        print_month(rt, year, sui.months[i])?;
-        i += 1;
+        Err(r) => {
+            print(rt, year)?;
+            println!(rt; " R {}", r.number())
+        }
     }
-    Ok(())
 }
 
 // The six suis of an input, in a zone.
@@ -90,9 +83,7 @@ fn print_suis(rt: &impl Print, words: &[i64], zone: i64) -> io::Result<()> {
     if words.len() != 4670 {
         return Ok(());
     }
-    let mut k: usize = 0;
-    while k < 6 {
-        let year = words[k];
+    for &year in &words[..6] {
         let found = one_sui::sui(
             &words[6..62],
             Second(words[62]),
@@ -103,7 +94,6 @@ fn print_suis(rt: &impl Print, words: &[i64], zone: i64) -> io::Result<()> {
             year,
         );
         print_sui(rt, year, found)?;
-        k += 1;
     }
     Ok(())
 }
@@ -129,23 +119,6 @@ fn print_input<I: Read>(rt: &impl Print, from: &mut I) -> io::Result<()> {
     print_zone(rt, &words, 841)
 }
 
-// The suis of the file that argument i names.
-fn print_case(rt: &(impl Env + Files + Print), i: usize) -> io::Result<()> {
-    print!(rt; "# ")?;
-    outside::print_argument(rt, i)?;
-    println!(rt)?;
-    match outside::open_argument(rt, i) {
-        Err(_) => println!(rt; "cannot be read"),
-        Ok(mut file) => print_input(rt, &mut file),
-    }
-}
-
 fn main(rt: HostRuntime) -> io::Result<()> {
-    for i in 1..usize::MAX {
-        if !outside::has_argument(&rt, i) {
-            break;
-        }
-        print_case(&rt, i)?;
-    }
-    Ok(())
+    outside::each_file(&rt, |rt, file| print_input(rt, file))
 }

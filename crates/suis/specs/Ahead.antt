@@ -2,7 +2,7 @@
 use Rattle.std.specs.Prelude.{◌≡◌, Bool, cond, not, ◌&&◌, ◌||◌, List, [], ◌++◌, ℕ, zero, suc, ◌+◌, ◌-◌, ◌*◌, ◌≤◌, ◌<◌, eqb, leb, ltb, ℤ, pos, ◌-ℤ◌, length, get_or, take, drop}
 use Rattle.std.specs.Int.Signed.{lt_z}
 use Rattle.whole.specs.Tabulated.{tabulate}
-use Rattle.refusals.specs.Verdict.{Verdict, answered, refused, refusal, refuse_when, ◌before◌}
+use Rattle.refusals.specs.Verdict.{Verdict, answered, refused, refuse_when, ◌before◌}
 use Rattle.series.specs.Series.{Series}
 use Rattle.inputs.specs.Inputs.{Inputs, sun, moon}
 use Rattle.inputs.specs.Known.{Known}
@@ -13,8 +13,6 @@ use Rattle.turns.specs.Searched.{Searched}
 use Rattle.sui.specs.theory.Found.{zhongqi_from}
 use Rattle.sui.specs.theory.Solstices.{eve}
 use Rattle.suis.specs.declared.inner.Places.{Places}
-use Rattle.suis.specs.declared.inner.BeginAnswer.{BeginAnswer}
-use Rattle.suis.specs.declared.inner.BeginAnswer.TheVariants.{Begin, Refused}
 
 -- the days of consecutive turns from a place on; where there are fewer than so many, they are all that is left
 pub record Ahead (leap : List ℤ) (s : Series) (zone : ℤ) (from few : ℕ) (days : List ℤ) : Type 0 where
@@ -60,10 +58,6 @@ unfoldable pub crowded : {A : Type 0} → ℕ → ℕ → Verdict A
 crowded listed by = cond (leb listed by) (refused 8 0) (refused 9 0)
 
 -- ---- where the first sui begins: its first solstice's place, and that of month 11's new moon
-abbrev pub paper_begin : BeginAnswer → Verdict Places
-paper_begin (Begin places) = answered places
-paper_begin (Refused r) = refusal r
-
 module _ (leap : List ℤ) (sun moon : Series) (zone year : ℤ) where
   abbrev pub solstices_before : ℕ
   solstices_before = turns_by leap sun zone (eve (year -ℤ pos 1))

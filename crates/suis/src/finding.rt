@@ -1,20 +1,21 @@
 // The parts of finding a sui's days in the days ahead of it: one solstice in each of two years, the new moons from month 11 on.
 ghost use Rattle.std.specs.Prelude.{◌≡◌, ◌&&◌, ◌-◌, ◌<◌, pos, ◌+ℤ◌, length, get_or, ◌≤ℤ◌};
+ghost use Rattle.refusals.specs.Verdict.{paper};
 ghost use Rattle.whole.specs.Ranges.{Within};
 ghost use Rattle.series.specs.declared.Body.TheVariants.{Moon};
 ghost use Rattle.series.specs.Series.{series};
 ghost use Rattle.inputs.specs.Inputs.{inputs};
 ghost use Rattle.months.specs.Months.{days_of};
-ghost use Rattle.months.specs.Answers.{days_answer};
 ghost use Rattle.turns.specs.Listed.{turn_days, turns_by, turns_of};
 ghost use Rattle.turns.specs.Searched.{Searched};
 ghost use Rattle.sui.specs.Sui.{sui_days};
 ghost use Rattle.sui.specs.theory.Solstices.{eve};
 ghost use Rattle.suis.specs.Ahead.{Ahead, YearAhead, one_more, crowded};
 
-use month_rule::inner::{days_of, no_days};
-use months::DaysAnswer;
+use month_rule::inner::days_of;
+use months::SuiDays;
 use one_sui::inner::eve;
+use refusals::Refusal;
 use series::Body;
 use times::{Day, Second};
 use turns::inner::{TurnList, turns_by};
@@ -58,16 +59,16 @@ fn too_many(
     zone: i64,
     turns: TurnList,
     last: i64,
-) -> DaysAnswer
+) -> Result<SuiDays, Refusal>
     requires { Searched leap.now (series Moon start.0 coefs.now) zone turns }
-    ensures { result ≡ days_answer (crowded (turns_of (series Moon start.0 coefs.now)) (turns_by leap.now (series Moon start.0 coefs.now) zone last)) }
+    ensures { paper result ≡ crowded (turns_of (series Moon start.0 coefs.now)) (turns_by leap.now (series Moon start.0 coefs.now) zone last) }
 {
     let by = turns_by(leap, Body::Moon, start, coefs, zone, turns, Day(last));
     let listed = turns.count;
     if listed <= by {
-        return no_days(refusals::NO_SUI);
+        return Err(Refusal::NoSui);
     }
-    no_days(refusals::MONTH_COUNT)
+    Err(Refusal::MonthCount)
 }
 
 // The days of the sui with these zhongqi days, by the days of the new moons from month 11 on: 14 of them tell, and one more that no month is left over.
@@ -79,13 +80,13 @@ pub fn days_within(
     turns: TurnList,
     newmoons: &[i64],
     zhongqi: &[i64],
-) -> DaysAnswer
+) -> Result<SuiDays, Refusal>
     requires searched { Searched leap.now (series Moon start.0 coefs.now) zone turns }
     requires zhongqi_len { length zhongqi.now ≡ 13 }
     requires pos_bound { (get_or zhongqi.now 0 (pos 0)) ≤ℤ (get_or zhongqi.now 12 (pos 0)) }
     requires nonzero { 0 < turns_by leap.now (series Moon start.0 coefs.now) zone (get_or zhongqi.now 0 (pos 0)) }
     requires ahead { Ahead leap.now (series Moon start.0 coefs.now) zone (turns_by leap.now (series Moon start.0 coefs.now) zone (get_or zhongqi.now 0 (pos 0)) - 1) 15 newmoons.now }
-    ensures { result ≡ days_answer (days_of (turn_days leap.now (series Moon start.0 coefs.now) zone) zhongqi.now) }
+    ensures { paper result ≡ days_of (turn_days leap.now (series Moon start.0 coefs.now) zone) zhongqi.now }
 {
     if newmoons.len() < 15 {
         return days_of(newmoons, zhongqi);
@@ -112,15 +113,15 @@ pub fn days_from(
     solstices: &[i64],
     newmoons: &[i64],
     zhongqi: &[i64],
-) -> DaysAnswer
+) -> Result<SuiDays, Refusal>
     requires { YearAhead (inputs leap.now sunstart.0 sun.now moonstart.0 moon.now) zone suns moons year place solstices.now newmoons.now zhongqi.now }
-    ensures { result ≡ days_answer (sui_days (inputs leap.now sunstart.0 sun.now moonstart.0 moon.now) zone year) }
+    ensures { paper result ≡ sui_days (inputs leap.now sunstart.0 sun.now moonstart.0 moon.now) zone year }
 {
     if !in_range(1700, 2500, year) {
-        return no_days(refusals::NO_SUI);
+        return Err(Refusal::NoSui);
     }
     if !one_in_each(solstices, year) {
-        return no_days(refusals::NO_SUI);
+        return Err(Refusal::NoSui);
     }
     days_within(leap, moonstart, moon, zone, moons, newmoons, zhongqi)
 }

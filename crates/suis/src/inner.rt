@@ -1,20 +1,20 @@
 // For builds of many suis: where the first one begins, the days ahead of it, and the sui of each year. The zone is in minutes.
 ghost use Rattle.std.specs.Prelude.{◌≡◌, ◌++◌, ◌+◌, ◌*◌, ◌≤◌, ◌<◌, length, drop};
+ghost use Rattle.refusals.specs.Verdict.{paper};
 ghost use Rattle.whole.specs.Lists.{placed};
 ghost use Rattle.whole.specs.Tabulated.{tabulate};
 ghost use Rattle.series.specs.declared.Body.TheVariants.{Sun, Moon};
 ghost use Rattle.series.specs.Series.{series};
 ghost use Rattle.inputs.specs.Inputs.{inputs};
-ghost use Rattle.months.specs.Answers.{days_answer, sui_answer};
 ghost use Rattle.turns.specs.Listed.{turn_day};
 ghost use Rattle.turns.specs.Searched.{Searched};
 ghost use Rattle.sui.specs.Sui.{sui_days, sui_of_year};
-ghost use Rattle.suis.specs.Ahead.{Ahead, YearIn, zhongqi_of, paper_begin, begun, fewer};
+ghost use Rattle.suis.specs.Ahead.{Ahead, YearIn, zhongqi_of, begun, fewer};
 
 use super::finding::days_from;
-use months::{DaysAnswer, SuiAnswer};
+use months::{Sui, SuiDays};
 use one_sui::inner::eve;
-use refusals::{Check, Refusal};
+use refusals::Refusal;
 use series::Body;
 use times::Second;
 use turns::inner::{TurnList, day_of_turn, turn_index, turns_by};
@@ -30,12 +30,6 @@ pub struct Places {
     pub newmoon: usize,
 }
 
-#[derive(Clone, Copy)]
-pub enum BeginAnswer {
-    Begin(Places),
-    Refused(Refusal),
-}
-
 // Where the sui of a year begins; 8 where it cannot.
 pub fn begin(
     leap: &[i64],
@@ -47,26 +41,26 @@ pub fn begin(
     suns: TurnList,
     moons: TurnList,
     year: i64,
-) -> BeginAnswer
+) -> Result<Places, Refusal>
     requires searched { Searched leap.now (series Sun sunstart.0 sun.now) zone suns }
     requires searched_2 { Searched leap.now (series Moon moonstart.0 moon.now) zone moons }
-    ensures { paper_begin result ≡ begun leap.now (series Sun sunstart.0 sun.now) (series Moon moonstart.0 moon.now) zone year }
+    ensures { paper result ≡ begun leap.now (series Sun sunstart.0 sun.now) (series Moon moonstart.0 moon.now) zone year }
 {
     if !in_range(1700, 2500, year) {
-        return BeginAnswer::Refused(refusals::NO_SUI);
+        return Err(Refusal::NoSui);
     }
     let before = eve(subtract(year, 1));
     let solstice = turns_by(leap, Body::Sun, sunstart, sun, zone, suns, before);
     let listed = suns.count;
     if listed <= solstice {
-        return BeginAnswer::Refused(refusals::NO_SUI);
+        return Err(Refusal::NoSui);
     }
     let day = day_of_turn(leap, Body::Sun, sunstart, sun, zone, suns, solstice);
     let by = turns_by(leap, Body::Moon, moonstart, moon, zone, moons, day);
     if by == 0 {
-        return BeginAnswer::Refused(refusals::NO_SUI);
+        return Err(Refusal::NoSui);
     }
-    BeginAnswer::Begin(Places {
+    Ok(Places {
         solstice,
         newmoon: by - 1,
     })
@@ -101,12 +95,8 @@ pub fn days_ahead(
     requires n_in_bounds { n ≤ length out.old }
     ensures { out.new ≡ tabulate (λ k. turn_day leap.now (series body start.0 coefs.now) zone (from + k)) n ++ drop n out.old }
 {
-    let mut i: usize = 0;
-    while i < n {
-        let day = day_of_turn(leap, body, start, coefs, zone, turns, from + i);
-        let number = day.0;
-        out[i] = number;
-        i += 1;
+    for (i, day) in out[..n].iter_mut().enumerate() {
+        *day = day_of_turn(leap, body, start, coefs, zone, turns, from + i).0;
     }
 }
 
@@ -128,14 +118,12 @@ pub fn zhongqi_ahead(
     requires m_in_bounds_2 { 13 * m ≤ length out.old }
     ensures { out.new ≡ placed 0 (zhongqi_of leap.now (series Sun start.0 coefs.now) zone place m) out.old }
 {
-    let mut j: usize = 0;
-    while j < m {
+    for j in 0..m {
         let index = turn_index(Body::Sun, suns.first, place + j);
         let first = solstices[j];
         let last = solstices[j + 1];
         let days = zhongqi_days(leap, start, coefs, zone, index, first, last);
         put_thirteen(out, 13 * j, days);
-        j += 1;
     }
 }
 
@@ -157,9 +145,9 @@ pub fn days_after(
     solstices: &[i64],
     newmoons: &[i64],
     zhongqi: &[i64],
-) -> DaysAnswer
+) -> Result<SuiDays, Refusal>
     requires { YearIn (inputs leap.now sunstart.0 sun.now moonstart.0 moon.now) zone suns moons year place j from solstices.now newmoons.now zhongqi.now }
-    ensures { result ≡ days_answer (sui_days (inputs leap.now sunstart.0 sun.now moonstart.0 moon.now) zone year) }
+    ensures { paper result ≡ sui_days (inputs leap.now sunstart.0 sun.now moonstart.0 moon.now) zone year }
 {
     days_from(
         leap,
@@ -195,17 +183,13 @@ pub fn sui_after(
     solstices: &[i64],
     newmoons: &[i64],
     zhongqi: &[i64],
-) -> SuiAnswer
+) -> Result<Sui, Refusal>
     requires { YearIn (inputs leap.now sunstart.0 sun.now moonstart.0 moon.now) zone suns moons year place j from solstices.now newmoons.now zhongqi.now }
-    ensures { result ≡ sui_answer (sui_of_year (inputs leap.now sunstart.0 sun.now moonstart.0 moon.now) zone year) }
+    ensures { paper result ≡ sui_of_year (inputs leap.now sunstart.0 sun.now moonstart.0 moon.now) zone year }
 {
-    let found = days_after(
+    let days = days_after(
         leap, sunstart, sun, moonstart, moon, zone, suns, moons, year, place, j, from, solstices,
         newmoons, zhongqi,
-    );
-    let check = found.check;
-    if let Check::Refused(r) = check {
-        return month_rule::inner::no_sui(r);
-    }
-    month_rule::inner::sui_of(year, found.days)
+    )?;
+    month_rule::inner::sui_of(year, days)
 }

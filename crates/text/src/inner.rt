@@ -9,7 +9,7 @@ pub fn digit(n: u64, unit: u64) -> u8
     requires { 1 ≤ unit }
     ensures { result ≡ text.digit n unit }
 {
-    48 + (n / unit % 10) as u8
+    b'0' + (n / unit % 10) as u8
 }
 
 // What stands behind the index: date and time.

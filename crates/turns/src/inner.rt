@@ -23,6 +23,7 @@ pub struct TurnList {
 }
 
 // How many marks a circle has.
+// Kept: a number for each body in one line; a record of all such numbers would be made for one of its fields.
 fn circle(body: Body) -> usize
     ensures { result ≡ circle_of body }
 {
@@ -33,6 +34,7 @@ fn circle(body: Body) -> usize
 }
 
 // What a turn's index leaves, divided by the circle.
+// Kept: a number for each body in one line; a record of all such numbers would be made for one of its fields.
 fn turn(body: Body) -> i64
     ensures { result ≡ pos (turn_of body) }
 {
@@ -125,6 +127,7 @@ pub fn turns_by(
 {
     let mut low: usize = 0;
     let mut high: usize = turns.count;
+    // Kept: a bisection by hand, since a day is found when it is asked for, and `partition_point` needs a slice that holds them all.
     while low < high {
         let middle = low + (high - low) / 2;
         let here = day_of_turn(leap, body, start, coefs, zone, turns, middle);

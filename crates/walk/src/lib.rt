@@ -3,16 +3,16 @@
 #![tactic(auto)]
 
 ghost use Rattle.std.specs.Prelude.{◌≡◌, ◌++◌, ◌*◌, ◌≤◌, length, drop};
+ghost use Rattle.refusals.specs.Verdict.{paper};
 ghost use Rattle.refusals.specs.Lent.{written_into};
 ghost use Rattle.series.specs.Series.{series, InSpan};
 ghost use Rattle.series.specs.Acceptance.{Accepted};
 ghost use Rattle.marks.specs.Listed.{listed_marks, reached_at};
 ghost use Rattle.marks.specs.Words.{mark_words};
-ghost use Rattle.marks.specs.Answers.{paper_list, listed_into, words_listed};
+ghost use Rattle.marks.specs.Answers.{listed_into, words_listed};
 
 use acceptance::inner::{last_second, mark_size};
-use marks::ListAnswer;
-use refusals::Check;
+use refusals::Refusal;
 use series::Body;
 use times::Second;
 
@@ -33,16 +33,14 @@ fn count(body: Body, start: Second, coefs: &[i64]) -> usize
 {
     let last = last_second(body, start, coefs);
     let end = last.0;
-    let mut before = start.0;
-    let mut reached = reached_at(body, start, coefs, before);
+    let mut reached = reached_at(body, start, coefs, start.0);
     let mut marks: usize = 0;
-    while before < end {
+    for before in start.0..end {
         let second = before + 1;
         let index = reached_at(body, start, coefs, second);
         if reached < index {
             marks += 1;
         }
-        before = second;
         reached = index;
     }
     marks
@@ -56,10 +54,9 @@ fn write(body: Body, start: Second, coefs: &[i64], out: &mut [i64])
 {
     let last = last_second(body, start, coefs);
     let end = last.0;
-    let mut before = start.0;
-    let mut reached = reached_at(body, start, coefs, before);
+    let mut reached = reached_at(body, start, coefs, start.0);
     let mut at: usize = 0;
-    while before < end {
+    for before in start.0..end {
         let second = before + 1;
         let index = reached_at(body, start, coefs, second);
         if reached < index {
@@ -67,24 +64,25 @@ fn write(body: Body, start: Second, coefs: &[i64], out: &mut [i64])
             out[at + 1] = second;
             at += 2;
         }
-        before = second;
         reached = index;
     }
 }
 
 // The marks of a series in time order, from the start of `out` on: two words to a mark, its index and its second.
-pub fn list_marks(body: Body, start: Second, coefs: &[i64], out: &mut [i64]) -> ListAnswer
-    ensures result_value { paper_list result ≡ listed_into (series body start.0 coefs.now) (length out.old) }
+pub fn list_marks(
+    body: Body,
+    start: Second,
+    coefs: &[i64],
+    out: &mut [i64],
+) -> Result<usize, Refusal>
+    ensures result_value { paper result ≡ listed_into (series body start.0 coefs.now) (length out.old) }
     ensures out_after { out.new ≡ written_into (listed_into (series body start.0 coefs.now) (length out.old)) (words_listed (series body start.0 coefs.now)) out.old }
 {
-    let check = acceptance::accept(body, start, coefs);
-    if let Check::Refused(refusal) = check {
-        return ListAnswer::Refused(refusal);
-    }
+    acceptance::accept(body, start, coefs)?;
     let marks = count(body, start, coefs);
     if out.len() / 2 < marks {
-        return ListAnswer::Refused(refusals::ROOM);
+        return Err(Refusal::Room);
     }
     write(body, start, coefs, out);
-    ListAnswer::Marks(marks)
+    Ok(marks)
 }

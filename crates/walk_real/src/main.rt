@@ -6,7 +6,6 @@
 ghost use Rattle.std.specs.Prelude.{◌≡◌, ◌≤◌, length};
 
 use alike::inner::same_words;
-use marks::ListAnswer;
 use refusals::Refusal;
 use series::Body;
 use std::io;
@@ -36,41 +35,10 @@ fn print(rt: &impl Print, n: i64) -> io::Result<()> {
     print!(rt; "{n}")
 }
 
-fn print_refusal(rt: &impl Print, refusal: Refusal) -> io::Result<()> {
-    let number = refusal.number;
-    let segment = refusal.segment;
-    print!(rt; "refused {number}, segment {segment}")
-}
-
-fn print_answer(rt: &impl Print, answer: ListAnswer) -> io::Result<()> {
+fn print_answer(rt: &impl Print, answer: Result<usize, Refusal>) -> io::Result<()> {
     match answer {
-        ListAnswer::Marks(n) => print!(rt; "{n} marks"),
-        ListAnswer::Refused(refusal) => print_refusal(rt, refusal),
-    }
-}
-
-fn same_refusal(a: Refusal, b: Refusal) -> bool {
-    a.number == b.number && a.segment == b.segment
-}
-
-fn refused_alike(refusal: Refusal, other: ListAnswer) -> bool {
-    match other {
-        ListAnswer::Marks(_) => false,
-        ListAnswer::Refused(second) => same_refusal(refusal, second),
-    }
-}
-
-fn marks_alike(n: usize, other: ListAnswer) -> bool {
-    match other {
-        ListAnswer::Marks(m) => n == m,
-        ListAnswer::Refused(_) => false,
-    }
-}
-
-fn same_answer(answer: ListAnswer, other: ListAnswer) -> bool {
-    match answer {
-        ListAnswer::Marks(n) => marks_alike(n, other),
-        ListAnswer::Refused(refusal) => refused_alike(refusal, other),
+        Ok(n) => print!(rt; "{n} marks"),
+        Err(r) => print!(rt; "refused {}, segment {}", r.number(), r.segment()),
     }
 }
 
@@ -103,7 +71,7 @@ fn compare(
     let by_finder = finder::list_marks(body, Second(start), coefs, found);
     print!(rt; "{name}: ")?;
     print_answer(rt, by_walk)?;
-    if same_answer(by_walk, by_finder) && same_words(walked, found) {
+    if by_walk == by_finder && same_words(walked, found) {
         println!(rt; ", as the finder")?;
     } else {
         println!(rt; ", not as the finder")?;
@@ -121,7 +89,9 @@ fn in_room(
 ) -> io::Result<()>
     requires { room ≤ 24 }
 {
+    // Kept: fixed memory, no heap.
     let mut walked = sevens();
+    // Kept: fixed memory, no heap.
     let mut found = sevens();
     compare(
         rt,
@@ -134,12 +104,14 @@ fn in_room(
     )
 }
 
+// Kept: each line says its own numbers; a function of both would be handed them all.
 fn sun_cases(rt: &impl Print, start: i64, coefs: &[i64]) -> io::Result<()> {
     in_room(rt, "S, 24 words", Body::Sun, start, coefs, 24)?;
     in_room(rt, "S, 8 words", Body::Sun, start, coefs, 8)?;
     in_room(rt, "S, 7 words", Body::Sun, start, coefs, 7)
 }
 
+// Kept: each line says its own numbers; a function of both would be handed them all.
 fn moon_cases(rt: &impl Print, start: i64, coefs: &[i64]) -> io::Result<()> {
     in_room(rt, "M, 24 words", Body::Moon, start, coefs, 24)?;
     in_room(rt, "M, 18 words", Body::Moon, start, coefs, 18)?;

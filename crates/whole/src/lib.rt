@@ -10,5 +10,5 @@ mod worked;
 pub fn absolute(a: i64) -> u64
     ensures { result ≡ nat_abs a }
 {
-    if a < 0 { (-1 - a) as u64 + 1 } else { a as u64 }
+    a.unsigned_abs()
 }

@@ -9,10 +9,8 @@ fn total(xs: &[i64]) -> i64
     ensures { result ≡ sum_to xs.now (length xs.now) }
 {
     let mut sum: i64 = 0;
-    let mut i = 0;
-    while i < xs.len() {
-        sum += xs[i];
-        i += 1;
+    for x in xs {
+        sum += *x;
     }
     sum
 }

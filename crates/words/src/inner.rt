@@ -1,20 +1,22 @@
 // Reading and writing little-endian numbers. Callers show that the bytes are there, and the room.
-ghost use Rattle.std.specs.Prelude.{◌≡◌, ◌++◌, ◌+◌, ◌*◌, ◌≤◌, ◌<◌, negsuc, nat_abs, length, drop};
+ghost use Rattle.std.specs.Prelude.{◌≡◌, ◌++◌, ◌+◌, ◌*◌, ◌≤◌, ◌<◌, negsuc, nat_abs, length, take, drop};
 ghost use Rattle.whole.specs.Lists.{placed};
-ghost use Rattle.words.specs.Words.{byte, pattern4, unsigned4, signed4, word8, words, half4, half8, pattern_below, le4, bytes1, bytes4, bytes8};
+ghost use Rattle.words.specs.Words.{byte, pattern4, unsigned4, signed4, word8, words, bytes1, bytes4, bytes8};
 
 // -k - 1.
 pub fn below_zero(k: u64) -> i64
     requires { k < 9223372036854775808 }
     ensures { result ≡ negsuc k }
 {
-    -1 - (k as i64)
+    -1 - k.cast_signed()
 }
 
-fn wide(x: u8) -> u64
-    ensures { (result ≡ x) × (result < 256) }
+// The four bytes at `at`.
+fn four_at(src: &[u8], at: usize) -> [u8; 4]
+    requires { at + 4 ≤ length src.now }
+    ensures { result ≡ take 4 (drop at src.now) }
 {
-    x as u64
+    src[at..at + 4].try_into().unwrap()
 }
 
 // The 32 bits at `at`, as a count.
@@ -22,10 +24,7 @@ pub fn pattern(src: &[u8], at: usize) -> u64
     requires { at + 4 ≤ length src.now }
     ensures { (result ≡ pattern4 src.now at) × (result < 4294967296) }
 {
-    wide(src[at])
-        + 256 * wide(src[at + 1])
-        + 65536 * wide(src[at + 2])
-        + 16777216 * wide(src[at + 3])
+    u64::from(u32::from_le_bytes(four_at(src, at)))
 }
 
 // The byte at `at`.
@@ -33,7 +32,7 @@ pub fn byte_at(src: &[u8], at: usize) -> i64
     requires { at < length src.now }
     ensures { result ≡ byte src.now at }
 {
-    wide(src[at]) as i64
+    i64::from(src[at])
 }
 
 // The 32 bits at `at`, never negative.
@@ -41,7 +40,7 @@ pub fn unsigned4_at(src: &[u8], at: usize) -> i64
     requires { at + 4 ≤ length src.now }
     ensures { result ≡ unsigned4 src.now at }
 {
-    pattern(src, at) as i64
+    i64::from(u32::from_le_bytes(four_at(src, at)))
 }
 
 // The signed 32 bits at `at`.
@@ -49,12 +48,7 @@ pub fn signed4_at(src: &[u8], at: usize) -> i64
     requires { at + 4 ≤ length src.now }
     ensures { result ≡ signed4 src.now at }
 {
-    let u = pattern(src, at);
-    if u < 2147483648 {
-        u as i64
-    } else {
-        below_zero(4294967295 - u)
-    }
+    i64::from(i32::from_le_bytes(four_at(src, at)))
 }
 
 // The signed 64-bit word at `at`.
@@ -62,14 +56,7 @@ pub fn word_at(src: &[u8], at: usize) -> i64
     requires { at + 8 ≤ length src.now }
     ensures { result ≡ word8 src.now at }
 {
-    let low = pattern(src, at);
-    let high = pattern(src, at + 4);
-    let u = low + 4294967296 * high;
-    if u < 9223372036854775808 {
-        u as i64
-    } else {
-        below_zero(18446744073709551615 - u)
-    }
+    i64::from_le_bytes(src[at..at + 8].try_into().unwrap())
 }
 
 // The first n words go to the front of `dst`; what stands behind them stays.
@@ -78,45 +65,9 @@ pub fn read_words(src: &[u8], n: usize, dst: &mut [i64])
     requires n_in_bounds_2 { n ≤ length dst.old }
     ensures { dst.new ≡ words src.now n ++ drop n dst.old }
 {
-    let mut i = 0;
-    while i < n {
-        dst[i] = word_at(src, 8 * i);
-        i += 1;
+    for (i, word) in dst[..n].iter_mut().enumerate() {
+        *word = word_at(src, 8 * i);
     }
-}
-
-// The 32 bits of z.
-fn bits4(z: i64) -> u64
-    requires { nat_abs z < 4294967296 }
-    ensures { result ≡ pattern_below half4 z }
-{
-    if z < 0 {
-        4294967296 - whole::absolute(z)
-    } else {
-        whole::absolute(z)
-    }
-}
-
-// The 64 bits of z.
-fn bits8(z: i64) -> u64
-    ensures { result ≡ pattern_below half8 z }
-{
-    if z < 0 {
-        18446744073709551615 - whole::absolute(z) + 1
-    } else {
-        whole::absolute(z)
-    }
-}
-
-// The four bytes of a pattern go to `dst` from `at` on.
-fn put_pattern(dst: &mut [u8], at: usize, u: u64)
-    requires { at + 4 ≤ length dst.old }
-    ensures { dst.new ≡ placed at (le4 u) dst.old }
-{
-    dst[at] = (u % 256) as u8;
-    dst[at + 1] = (u / 256 % 256) as u8;
-    dst[at + 2] = (u / 65536 % 256) as u8;
-    dst[at + 3] = (u / 16777216 % 256) as u8;
 }
 
 // A byte goes to `dst` at `at`.
@@ -125,7 +76,7 @@ pub fn put_byte(dst: &mut [u8], at: usize, z: i64)
     requires z_bound { nat_abs z < 256 }
     ensures { dst.new ≡ placed at (bytes1 z) dst.old }
 {
-    dst[at] = whole::absolute(z) as u8;
+    dst[at] = z.unsigned_abs() as u8;
 }
 
 // A number in the range of 32 bits, signed or not.
@@ -134,7 +85,7 @@ pub fn put4(dst: &mut [u8], at: usize, z: i64)
     requires z_bound { nat_abs z < 4294967296 }
     ensures { dst.new ≡ placed at (bytes4 z) dst.old }
 {
-    put_pattern(dst, at, bits4(z));
+    dst[at..at + 4].copy_from_slice(&z.to_le_bytes()[..4]);
 }
 
 // A signed 64-bit word.
@@ -142,7 +93,5 @@ pub fn put8(dst: &mut [u8], at: usize, z: i64)
     requires { at + 8 ≤ length dst.old }
     ensures { dst.new ≡ placed at (bytes8 z) dst.old }
 {
-    let u = bits8(z);
-    put_pattern(dst, at, u % 4294967296);
-    put_pattern(dst, at + 4, u / 4294967296);
+    dst[at..at + 8].copy_from_slice(&z.to_le_bytes());
 }

@@ -47,28 +47,26 @@ fn put_month(out: &mut [u8], at: usize, handle: i64, first: i64, size: i64)
 }
 
 // n leap entries.
+// Kept: widths and signs differ from record to record; a generic one would be handed a writing for each field, and be longer than the three.
 fn put_entries(leap: &[i64], n: usize, out: &mut [u8], at: usize)
     requires fit { Fit (times n entry_fields) leap.now }
     requires n_in_bounds { at + 8 * n ≤ length out.old }
     ensures { out.new ≡ placed at (bytes_for (times n entry_fields) leap.now) out.old }
 {
-    let mut i = 0;
-    while i < n {
+    for i in 0..n {
         put_entry(out, at + 8 * i, leap[2 * i], leap[2 * i + 1]);
-        i += 1;
     }
 }
 
 // n suis.
+// Kept: widths and signs differ from record to record; a generic one would be handed a writing for each field, and be longer than the three.
 fn put_suis(suis: &[i64], n: usize, out: &mut [u8], at: usize)
     requires fit { Fit (times n sui_fields) suis.now }
     requires n_in_bounds { at + 5 * n ≤ length out.old }
     ensures { out.new ≡ placed at (bytes_for (times n sui_fields) suis.now) out.old }
 {
-    let mut i = 0;
-    while i < n {
+    for i in 0..n {
         put_sui(out, at + 5 * i, suis[2 * i], suis[2 * i + 1]);
-        i += 1;
     }
 }
 
@@ -78,8 +76,7 @@ fn put_months(months: &[i64], n: usize, out: &mut [u8], at: usize)
     requires n_in_bounds { at + 9 * n ≤ length out.old }
     ensures { out.new ≡ placed at (bytes_for (times n month_fields) months.now) out.old }
 {
-    let mut i = 0;
-    while i < n {
+    for i in 0..n {
         put_month(
             out,
             at + 9 * i,
@@ -87,7 +84,6 @@ fn put_months(months: &[i64], n: usize, out: &mut [u8], at: usize)
             months[3 * i + 1],
             months[3 * i + 2],
         );
-        i += 1;
     }
 }
 

@@ -5,16 +5,17 @@ ghost use Rattle.whole.specs.Floor.{floor_div};
 ghost use Rattle.whole.specs.Ranges.{Within};
 ghost use Rattle.chebyshev.specs.Polynomials.{S};
 ghost use Rattle.chebyshev.specs.Segment.{value, slope, InRange};
-ghost use Rattle.refusals.specs.Verdict.{accepted, paper_check};
+ghost use Rattle.refusals.specs.Verdict.{accepted, paper};
 ghost use Rattle.series.specs.Bodies.{numbers};
 ghost use Rattle.series.specs.Acceptance.{judged_shape, bad_rise, judged_segments};
 ghost use Rattle.series.specs.theory.Kept.{first_of, found};
 
-use refusals::{Check, Refusal};
+use refusals::Refusal;
 use series::Body;
 use times::Second;
 
 // The most coefficients that a series may have.
+// Kept: a number for each body in one line; a record of all such numbers would be made for one of its fields.
 fn most(body: Body) -> usize
     ensures { result ≡ 14 * (numbers body).most_segments }
 {
@@ -25,26 +26,26 @@ fn most(body: Body) -> usize
 }
 
 // 2: the count of coefficients, and the start.
-pub fn shape(body: Body, start: Second, count: usize) -> Check
-    ensures { paper_check result ≡ judged_shape body start.0 count }
+pub fn shape(body: Body, start: Second, count: usize) -> Result<(), Refusal>
+    ensures { paper result ≡ judged_shape body start.0 count }
 {
     let from = start.0;
     if count % 14 != 0 {
-        return Check::Refused(refusals::SHAPE);
+        return Err(Refusal::Shape);
     }
     if count == 0 {
-        return Check::Refused(refusals::SHAPE);
+        return Err(Refusal::Shape);
     }
     if most(body) < count {
-        return Check::Refused(refusals::SHAPE);
+        return Err(Refusal::Shape);
     }
     if from < -10000000000 {
-        return Check::Refused(refusals::SHAPE);
+        return Err(Refusal::Shape);
     }
     if 10000000000 < from {
-        return Check::Refused(refusals::SHAPE);
+        return Err(Refusal::Shape);
     }
-    Check::Accepted
+    Ok(())
 }
 
 // A sum divided by H and rounded down. A multiple of H is added first, so that an unsigned division by a constant does it.
@@ -118,46 +119,35 @@ fn first_of(kept: usize, count: usize, bad: bool, k: usize) -> usize
 }
 
 // 4 at the slow segment that was kept, or else 5 at the joint that was.
-fn kept_refusal(count: usize, slow: usize, joint: usize) -> Check
-    ensures { paper_check result ≡ found 4 slow count (found 5 joint count accepted) }
+fn kept_refusal(count: usize, slow: usize, joint: usize) -> Result<(), Refusal>
+    ensures { paper result ≡ found 4 slow count (found 5 joint count accepted) }
 {
     if slow < count {
-        return Check::Refused(Refusal {
-            number: 4,
-            segment: slow,
-        });
+        return Err(Refusal::TooSlow(slow));
     }
     if joint < count {
-        return Check::Refused(Refusal {
-            number: 5,
-            segment: joint,
-        });
+        return Err(Refusal::Joint(joint));
     }
-    Check::Accepted
+    Ok(())
 }
 
 // 3, 4 and 5 in one pass. 3 refuses at once; the first slow segment and the first bad joint are kept until 3 is known of all.
-pub fn each_segment(body: Body, coefs: &[i64]) -> Check
-    ensures { paper_check result ≡ judged_segments body coefs.now }
+pub fn each_segment(body: Body, coefs: &[i64]) -> Result<(), Refusal>
+    ensures { paper result ≡ judged_segments body coefs.now }
 {
     let count = coefs.len() / 14;
     let mut slow = count;
     let mut joint = count;
     let mut last: i64 = 0;
-    let mut k = 0;
-    while k < count {
+    for k in 0..count {
         let part = crate::inner::segment_of(coefs, k);
         if evaluator::inner::out_of_range(part) {
-            return Check::Refused(Refusal {
-                number: 3,
-                segment: k,
-            });
+            return Err(Refusal::Coefficient(k));
         }
         slow = first_of(slow, count, too_slow(body, part), k);
         let ends = ends_of(body, part);
         joint = first_of(joint, count, joins_badly(k, last, ends.first), k);
         last = ends.last;
-        k += 1;
     }
     kept_refusal(count, slow, joint)
 }

@@ -1,25 +1,198 @@
 // From an answer to the nine words of its record, and into the caller's.
-ghost use Rattle.std.specs.Prelude.{◌≡◌, ◌∷◌, ◌^◌, ◌<◌, pos, get_or, replicate};
-ghost use Rattle.refusals.specs.Verdict.{answered, refusal, paper_check};
-ghost use Rattle.dates.specs.Answers.{paper_date, paper_day};
-ghost use Rattle.clock.specs.Answers.{paper_milli, paper_shown};
-ghost use Rattle.series.specs.Acceptance.{paper_value};
-ghost use Rattle.served.specs.Served.{paper_serves};
-ghost use Rattle.marks.specs.Answers.{paper_count, paper_list};
-ghost use Rattle.almanac.specs.Answers.{paper_file, paper_written};
-ghost use Rattle.rebuilt.specs.Rebuild.{paper_rebuilt};
+ghost use Rattle.std.specs.Prelude.{◌≡◌, ◌^◌, ◌<◌, ℕ, ℤ, List, pos, get_or};
+ghost use Rattle.refusals.specs.Verdict.{answered, refusal, refusal_segment, paper};
 ghost use Rattle.answers.specs.Record.{record_of, no_numbers, date_numbers, day_numbers, milli_numbers, shown_numbers, value_numbers, served_numbers, count_numbers, file_numbers, rebuilt_numbers};
-ghost use Rattle.answers.specs.Fits.{Fits, none, shown_size, served_size, file_size, rebuilt_size, itself};
+ghost use Rattle.answers.specs.Months.{sui_numbers};
+ghost use Rattle.answers.specs.Fits.{Fits, none, itself, shown_size, sui_size, file_size, served_size, rebuilt_size};
 
-use almanac::{Counts, FileAnswer, WriteAnswer};
-use clock::{MilliAnswer, ShownAnswer, ShownTime};
-use dates::{DateAnswer, DayAnswer};
-use marks::{CountAnswer, ListAnswer};
-use rebuilt::{RebuildAnswer, Rebuilt};
-use refusals::{Check, Refusal};
-use series::ValueAnswer;
-use served::ServesAnswer;
+use almanac::Counts;
+use clock::ShownTime;
+use dates::Date;
+use months::Sui;
+use rebuilt::Rebuilt;
+use refusals::Refusal;
+use served::{Served, Side};
+use times::{Day, Milli};
 use whole::inner::signed;
+
+// An answer whose numbers stand in the record.
+pub trait Numbers {
+    // Its counts: they must fit a word.
+    ghost size: { Self → ℕ };
+
+    ghost numbers: { Self → List ℤ };
+
+    // Its record: two zeros, its numbers, and zeros.
+    fn words(self) -> [i64; 9]
+        requires { size self < 2 ^ 63 }
+        ensures { result ≡ record_of (answered self) numbers };
+}
+
+// A judge's answer has none.
+impl Numbers for () {
+    ghost size = { none };
+
+    ghost numbers = { no_numbers };
+
+    fn words(self) -> [i64; 9] {
+        [0; 9]
+    }
+}
+
+impl Numbers for Date {
+    ghost size = { none };
+
+    ghost numbers = { date_numbers };
+
+    fn words(self) -> [i64; 9] {
+        [0, 0, self.year, self.month, self.day, 0, 0, 0, 0]
+    }
+}
+
+impl Numbers for Day {
+    ghost size = { none };
+
+    ghost numbers = { day_numbers };
+
+    fn words(self) -> [i64; 9] {
+        [0, 0, self.0, 0, 0, 0, 0, 0, 0]
+    }
+}
+
+impl Numbers for Milli {
+    ghost size = { none };
+
+    ghost numbers = { milli_numbers };
+
+    fn words(self) -> [i64; 9] {
+        [0, 0, self.0, 0, 0, 0, 0, 0, 0]
+    }
+}
+
+// Date, hour, minute, second and millisecond.
+impl Numbers for ShownTime {
+    ghost size = { shown_size };
+
+    ghost numbers = { shown_numbers };
+
+    fn words(self) -> [i64; 9] {
+        let date = self.date;
+        let hour = signed(self.hour as usize);
+        let minute = signed(self.minute as usize);
+        let second = signed(self.second as usize);
+        let millisecond = signed(self.millisecond as usize);
+        [
+            0,
+            0,
+            date.year,
+            date.month,
+            date.day,
+            hour,
+            minute,
+            second,
+            millisecond,
+        ]
+    }
+}
+
+// The value of a series.
+impl Numbers for i64 {
+    ghost size = { none };
+
+    ghost numbers = { value_numbers };
+
+    fn words(self) -> [i64; 9] {
+        [0, 0, self, 0, 0, 0, 0, 0, 0]
+    }
+}
+
+// Which of two series serves, near 0 and long 1, and by which segment.
+impl Numbers for Served {
+    ghost size = { served_size };
+
+    ghost numbers = { served_numbers };
+
+    fn words(self) -> [i64; 9] {
+        let side = match self.side {
+            Side::Near => 0,
+            Side::Long => 1,
+        };
+        let segment = signed(self.segment);
+        [0, 0, side, segment, 0, 0, 0, 0, 0]
+    }
+}
+
+// How many marks or bytes.
+impl Numbers for usize {
+    ghost size = { itself };
+
+    ghost numbers = { count_numbers };
+
+    fn words(self) -> [i64; 9] {
+        let count = signed(self);
+        [0, 0, count, 0, 0, 0, 0, 0, 0]
+    }
+}
+
+// How many months.
+impl Numbers for Sui {
+    ghost size = { sui_size };
+
+    ghost numbers = { sui_numbers };
+
+    fn words(self) -> [i64; 9] {
+        let count = signed(self.count);
+        [0, 0, count, 0, 0, 0, 0, 0, 0]
+    }
+}
+
+// Leap entries, suis and months.
+impl Numbers for Counts {
+    ghost size = { file_size };
+
+    ghost numbers = { file_numbers };
+
+    fn words(self) -> [i64; 9] {
+        let entries = signed(self.entries);
+        let suis = signed(self.suis);
+        let months = signed(self.months);
+        [0, 0, entries, suis, months, 0, 0, 0, 0]
+    }
+}
+
+// Bytes of the new file, and years listed.
+impl Numbers for Rebuilt {
+    ghost size = { rebuilt_size };
+
+    ghost numbers = { rebuilt_numbers };
+
+    fn words(self) -> [i64; 9] {
+        let bytes = signed(self.bytes);
+        let years = signed(self.years);
+        [0, 0, bytes, years, 0, 0, 0, 0, 0]
+    }
+}
+
+// A refusal: its number, its segment, and zeros.
+fn refused(r: Refusal) -> [i64; 9]
+    requires { refusal_segment r < 2 ^ 63 }
+    ensures { result ≡ record_of (refusal r) no_numbers }
+{
+    let number = signed(r.number() as usize);
+    let segment = signed(r.segment());
+    [number, segment, 0, 0, 0, 0, 0, 0, 0]
+}
+
+// The record of an answer or a refusal.
+pub fn record<T: Numbers>(found: Result<T, Refusal>) -> [i64; 9]
+    requires { Fits T.size (paper found) }
+    ensures { result ≡ record_of (paper found) T.numbers }
+{
+    match found {
+        Ok(answer) => answer.words(),
+        Err(r) => refused(r),
+    }
+}
 
 // Into the caller's record, and its number.
 pub fn tell(words: [i64; 9], answer: &mut [i64; 9]) -> i64
@@ -28,198 +201,4 @@ pub fn tell(words: [i64; 9], answer: &mut [i64; 9]) -> i64
 {
     *answer = words;
     words[0]
-}
-
-// A refusal: its number, its segment, and zeros.
-pub fn refused(r: Refusal) -> [i64; 9]
-    requires { r.segment < 2 ^ 63 }
-    ensures { result ≡ record_of (refusal r) no_numbers }
-{
-    let number = signed(r.number as usize);
-    let segment = signed(r.segment);
-    [number, segment, 0, 0, 0, 0, 0, 0, 0]
-}
-
-// A judge's answer.
-pub fn check_record(answer: Check) -> [i64; 9]
-    requires { Fits none (paper_check answer) }
-    ensures { result ≡ record_of (paper_check answer) no_numbers }
-{
-    match answer {
-        Check::Accepted => [0; 9],
-        Check::Refused(r) => refused(r),
-    }
-}
-
-pub fn date_record(answer: DateAnswer) -> [i64; 9]
-    requires { Fits none (paper_date answer) }
-    ensures { result ≡ record_of (paper_date answer) date_numbers }
-{
-    match answer {
-        DateAnswer::Found(d) => [0, 0, d.year, d.month, d.day, 0, 0, 0, 0],
-        DateAnswer::Refused(r) => refused(r),
-    }
-}
-
-pub fn day_record(answer: DayAnswer) -> [i64; 9]
-    requires { Fits none (paper_day answer) }
-    ensures { result ≡ record_of (paper_day answer) day_numbers }
-{
-    match answer {
-        DayAnswer::Found(d) => [0, 0, d.0, 0, 0, 0, 0, 0, 0],
-        DayAnswer::Refused(r) => refused(r),
-    }
-}
-
-pub fn milli_record(answer: MilliAnswer) -> [i64; 9]
-    requires { Fits none (paper_milli answer) }
-    ensures { result ≡ record_of (paper_milli answer) milli_numbers }
-{
-    match answer {
-        MilliAnswer::Found(m) => [0, 0, m.0, 0, 0, 0, 0, 0, 0],
-        MilliAnswer::Refused(r) => refused(r),
-    }
-}
-
-// Date, hour, minute, second and millisecond.
-fn shown_words(t: ShownTime) -> [i64; 9]
-    requires { shown_size t < 2 ^ 63 }
-    ensures { result ≡ pos 0 ∷ pos 0 ∷ shown_numbers t }
-{
-    let d = t.date;
-    let hour = signed(t.hour as usize);
-    let minute = signed(t.minute as usize);
-    let second = signed(t.second as usize);
-    let millisecond = signed(t.millisecond as usize);
-    [
-        0,
-        0,
-        d.year,
-        d.month,
-        d.day,
-        hour,
-        minute,
-        second,
-        millisecond,
-    ]
-}
-
-pub fn shown_record(answer: ShownAnswer) -> [i64; 9]
-    requires { Fits shown_size (paper_shown answer) }
-    ensures { result ≡ record_of (paper_shown answer) shown_numbers }
-{
-    match answer {
-        ShownAnswer::Found(t) => shown_words(t),
-        ShownAnswer::Refused(r) => refused(r),
-    }
-}
-
-pub fn value_record(answer: ValueAnswer) -> [i64; 9]
-    requires { Fits none (paper_value answer) }
-    ensures { result ≡ record_of (paper_value answer) value_numbers }
-{
-    match answer {
-        ValueAnswer::Value(v) => [0, 0, v, 0, 0, 0, 0, 0, 0],
-        ValueAnswer::Refused(r) => refused(r),
-    }
-}
-
-// Which of two series serves, near 0 and long 1, and by which segment.
-fn served_words(side: i64, k: usize) -> [i64; 9]
-    requires { k < 2 ^ 63 }
-    ensures { result ≡ pos 0 ∷ pos 0 ∷ side ∷ pos k ∷ replicate 5 (pos 0) }
-{
-    let segment = signed(k);
-    [0, 0, side, segment, 0, 0, 0, 0, 0]
-}
-
-pub fn served_record(answer: ServesAnswer) -> [i64; 9]
-    requires { Fits served_size (paper_serves answer) }
-    ensures { result ≡ record_of (paper_serves answer) served_numbers }
-{
-    match answer {
-        ServesAnswer::Near(k) => served_words(0, k),
-        ServesAnswer::Long(k) => served_words(1, k),
-        ServesAnswer::Refused(r) => refused(r),
-    }
-}
-
-// One count.
-pub fn counted(n: usize) -> [i64; 9]
-    requires { n < 2 ^ 63 }
-    ensures { result ≡ record_of (answered n) count_numbers }
-{
-    let count = signed(n);
-    [0, 0, count, 0, 0, 0, 0, 0, 0]
-}
-
-pub fn count_record(answer: CountAnswer) -> [i64; 9]
-    requires { Fits itself (paper_count answer) }
-    ensures { result ≡ record_of (paper_count answer) count_numbers }
-{
-    match answer {
-        CountAnswer::Marks(n) => counted(n),
-        CountAnswer::Refused(r) => refused(r),
-    }
-}
-
-pub fn list_record(answer: ListAnswer) -> [i64; 9]
-    requires { Fits itself (paper_list answer) }
-    ensures { result ≡ record_of (paper_list answer) count_numbers }
-{
-    match answer {
-        ListAnswer::Marks(n) => counted(n),
-        ListAnswer::Refused(r) => refused(r),
-    }
-}
-
-// Leap entries, suis and months.
-fn file_words(n: Counts) -> [i64; 9]
-    requires { file_size n < 2 ^ 63 }
-    ensures { result ≡ record_of (answered n) file_numbers }
-{
-    let entries = signed(n.entries);
-    let suis = signed(n.suis);
-    let months = signed(n.months);
-    [0, 0, entries, suis, months, 0, 0, 0, 0]
-}
-
-pub fn file_record(answer: FileAnswer) -> [i64; 9]
-    requires { Fits file_size (paper_file answer) }
-    ensures { result ≡ record_of (paper_file answer) file_numbers }
-{
-    match answer {
-        FileAnswer::File(n) => file_words(n),
-        FileAnswer::Refused(r) => refused(r),
-    }
-}
-
-pub fn written_record(answer: WriteAnswer) -> [i64; 9]
-    requires { Fits itself (paper_written answer) }
-    ensures { result ≡ record_of (paper_written answer) count_numbers }
-{
-    match answer {
-        WriteAnswer::Written(n) => counted(n),
-        WriteAnswer::Refused(r) => refused(r),
-    }
-}
-
-// Bytes of the new file, and years listed.
-fn rebuilt_words(n: Rebuilt) -> [i64; 9]
-    requires { rebuilt_size n < 2 ^ 63 }
-    ensures { result ≡ record_of (answered n) rebuilt_numbers }
-{
-    let bytes = signed(n.bytes);
-    let years = signed(n.years);
-    [0, 0, bytes, years, 0, 0, 0, 0, 0]
-}
-
-pub fn rebuilt_record(answer: RebuildAnswer) -> [i64; 9]
-    requires { Fits rebuilt_size (paper_rebuilt answer) }
-    ensures { result ≡ record_of (paper_rebuilt answer) rebuilt_numbers }
-{
-    match answer {
-        RebuildAnswer::Rebuilt(n) => rebuilt_words(n),
-        RebuildAnswer::Refused(r) => refused(r),
-    }
 }

@@ -1,24 +1,17 @@
--- What a sui's answer tells by its check: the sui that was found, or why there is none; and the promises of putting a year, from the verdict. Assumes nothing.
-use Rattle.std.specs.Prelude.{◌≡◌, refl, List, ℕ, ℤ}
-use Rattle.std.proofs.Common.{sym, ap, ◌∙◌}
+-- What a sui's answer tells: the sui that was found, or why there is none; and the promises of putting a year, from the verdict. Assumes nothing.
+use Rattle.std.specs.Prelude.{◌≡◌, refl, List, ℕ, ℤ, Result, Ok, Err}
+use Rattle.std.proofs.Common.{sym}
 use Rattle.whole.specs.Lists.{placed}
-use Rattle.refusals.specs.declared.Check.TheVariants.{Accepted, Refused}
 use Rattle.refusals.specs.declared.Refusal.{Refusal}
-use Rattle.refusals.specs.Verdict.{Verdict, answered, refused, refusal, paper_check, answers_apart, answer_or_refusal}
+use Rattle.refusals.specs.Verdict.{Verdict, answered, refused, refusal, answers_apart, answer_or_refusal, answered_is, refused_is, paper}
 use Rattle.months.specs.declared.Sui.{Sui}
-use Rattle.months.specs.declared.SuiAnswer.{SuiAnswer}
-use Rattle.months.specs.Answers.{sui_answer}
 use Rattle.build.specs.theory.Put.{months_of, year_words, sui_months, put_when}
 
--- accepted
-pub sui_answered : (r : SuiAnswer) (v : Verdict Sui) → r ≡ sui_answer v → r.check ≡ Accepted → v ≡ answered r.sui
-sui_answered r (answered sui) e q = ap answered (sym (ap (λ (s : SuiAnswer). s.sui) e))
-sui_answered r (refused number segment) e q = answer_or_refusal (ap paper_check (sym q ∙ ap (λ (s : SuiAnswer). s.check) e))
+pub sui_answered : (r : Result Sui Refusal) (v : Verdict Sui) {sui : Sui} → paper r ≡ v → r ≡ Ok sui → v ≡ answered sui
+sui_answered r v e q = answered_is e q
 
--- refused
-pub sui_refused : (r : SuiAnswer) (v : Verdict Sui) {q : Refusal} → r ≡ sui_answer v → r.check ≡ Refused q → v ≡ refusal q
-sui_refused r (answered sui) e q = answer_or_refusal (ap paper_check (sym (ap (λ (s : SuiAnswer). s.check) e) ∙ q))
-sui_refused r (refused number segment) e q = cc
+pub sui_refused : (r : Result Sui Refusal) (v : Verdict Sui) (q : Refusal) → paper r ≡ v → r ≡ Err q → v ≡ refusal q
+sui_refused r v q e is = refused_is e is
 
 -- the same by the number of its months
 pub year_refused : (v : Verdict Sui) {number segment : ℕ} → refused number segment ≡ months_of v → v ≡ refused number segment

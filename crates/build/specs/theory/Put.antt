@@ -1,21 +1,9 @@
 -- What is put where a sui is found, and what the answers of the walk say on paper. Assumes nothing: these are definitions.
 use Rattle.std.specs.Prelude.{List, [], ◌∷◌, ℕ, ◌/◌, ℤ, pos, length}
 use Rattle.whole.specs.Lists.{placed}
-use Rattle.refusals.specs.Verdict.{Verdict, answered, refused, refusal, ◌then◌}
+use Rattle.refusals.specs.Verdict.{Verdict, answered, refused, ◌then◌}
 use Rattle.months.specs.declared.Sui.{Sui}
-use Rattle.build.specs.declared.years.YearAnswer.{YearAnswer}
-use Rattle.build.specs.declared.years.YearAnswer.TheVariants as year
-use Rattle.build.specs.declared.years.YearsAnswer.{YearsAnswer}
-use Rattle.build.specs.declared.years.YearsAnswer.TheVariants as years
 use Rattle.built.specs.Build.{words_of, months_in as months-in, month_words}
-
-abbrev pub paper_year : YearAnswer → Verdict ℕ
-paper_year (year.Year count) = answered count
-paper_year (year.Refused r) = refusal r
-
-abbrev pub paper_years : YearsAnswer → Verdict ℕ
-paper_years (years.Years count) = answered count
-paper_years (years.Refused r) = refusal r
 
 -- how many months a sui has, and how many all have
 abbrev pub months_of : Verdict Sui → Verdict ℕ

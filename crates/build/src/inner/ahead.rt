@@ -1,13 +1,14 @@
 // The days of solstices, new moons and zhongqi that n suis need, found once and kept; and the records of the suis, kept until they are written.
 ghost use Rattle.std.specs.Prelude.{◌≡◌, ◌+◌, ◌*◌, ◌≤◌, length, take};
+ghost use Rattle.refusals.specs.Verdict.{paper};
 ghost use Rattle.refusals.specs.Lent.{written_into};
 ghost use Rattle.inputs.specs.Inputs.{inputs};
-ghost use Rattle.almanac.specs.Answers.{paper_written, bytes_counted, all_bytes};
+ghost use Rattle.almanac.specs.Answers.{bytes_counted, all_bytes};
 ghost use Rattle.built.specs.Build.{bytes_of_years};
 ghost use Rattle.build.specs.theory.Walk.{Begins, Walks};
 
-use crate::years::{YearsAnswer, put_years};
-use almanac::WriteAnswer;
+use crate::years::put_years;
+use refusals::Refusal;
 use series::Body;
 use suis::inner::{Places, days_ahead, fewer, zhongqi_ahead};
 use times::Second;
@@ -111,15 +112,17 @@ pub fn build_from(
     newmoons: &[i64],
     zhongqi: &[i64],
     file: &mut [u8],
-) -> WriteAnswer
+) -> Result<usize, Refusal>
     requires { Walks (inputs leap.now sunstart.0 sun.now moonstart.0 moon.now) zone suns moons places first n solstices.now newmoons.now zhongqi.now }
-    ensures result_value { paper_written result ≡ bytes_counted (bytes_of_years (inputs leap.now sunstart.0 sun.now moonstart.0 moon.now) zone first n (length file.old)) }
+    ensures result_value { paper result ≡ bytes_counted (bytes_of_years (inputs leap.now sunstart.0 sun.now moonstart.0 moon.now) zone first n (length file.old)) }
     ensures file_after { file.new ≡ written_into (bytes_of_years (inputs leap.now sunstart.0 sun.now moonstart.0 moon.now) zone first n (length file.old)) all_bytes file.old }
 {
+    // Kept: fixed memory, no heap.
     let mut suis = sui_words();
     // Three words a month. A number that the compiler does not know is stored word by word, where zeros, or an array handed over, would be a call of the C library.
+    // Kept: fixed memory, no heap.
     let mut months: [i64; 4992] = [first; 4992];
-    let judged = put_years(
+    let count = put_years(
         leap,
         sunstart,
         sun,
@@ -136,11 +139,8 @@ pub fn build_from(
         zhongqi,
         &mut suis,
         &mut months,
-    );
-    match judged {
-        YearsAnswer::Refused(r) => WriteAnswer::Refused(r),
-        YearsAnswer::Years(m) => write_lawful(leap, &suis[..2 * n], &months[..3 * m], file),
-    }
+    )?;
+    write_lawful(leap, &suis[..2 * n], &months[..3 * count], file)
 }
 
 // The file, by where the first sui begins.
@@ -157,13 +157,14 @@ pub fn build_at(
     first: i64,
     n: usize,
     file: &mut [u8],
-) -> WriteAnswer
+) -> Result<usize, Refusal>
     requires { Begins (inputs leap.now sunstart.0 sun.now moonstart.0 moon.now) zone suns moons places first n }
-    ensures result_value { paper_written result ≡ bytes_counted (bytes_of_years (inputs leap.now sunstart.0 sun.now moonstart.0 moon.now) zone first n (length file.old)) }
+    ensures result_value { paper result ≡ bytes_counted (bytes_of_years (inputs leap.now sunstart.0 sun.now moonstart.0 moon.now) zone first n (length file.old)) }
     ensures file_after { file.new ≡ written_into (bytes_of_years (inputs leap.now sunstart.0 sun.now moonstart.0 moon.now) zone first n (length file.old)) all_bytes file.old }
 {
     // Rooms for the days ahead of 128 suis: a solstice each and two more, thirteen new moons each and two more, thirteen zhongqi each. They are stored word by word where
     // they stand (`build_from` says why).
+    // Kept: fixed memory, no heap.
     let mut solstices: [i64; 130] = [first; 130];
     let mut newmoons: [i64; 1666] = [first; 1666];
     let mut zhongqi: [i64; 1664] = [first; 1664];

@@ -1,5 +1,5 @@
 // The records of a sui, put into lent words: year and number of months, and each month's handle, first day and length.
-ghost use Rattle.std.specs.Prelude.{◌≡◌, [], ◌∷◌, ◌+◌, ◌*◌, ◌≤◌, ◌<◌, pos, length};
+ghost use Rattle.std.specs.Prelude.{◌≡◌, [], ◌∷◌, ◌+◌, ◌*◌, ◌≤◌, pos, length};
 ghost use Rattle.whole.specs.Lists.{placed};
 ghost use Rattle.built.specs.Build.{words_of, months_in};
 
@@ -36,10 +36,7 @@ pub fn put_months(sui: Sui, out: &mut [i64], at: usize)
     requires count_in_bounds_2 { at + 3 * sui.count ≤ length out.old }
     ensures { out.new ≡ placed at (words_of (months_in sui)) out.old }
 {
-    let count = sui.count;
-    let mut i: usize = 0;
-    while i < count {
-        put_month(out, at + 3 * i, sui.months[i]);
-        i += 1;
+    for (i, month) in sui.months[..sui.count].iter().enumerate() {
+        put_month(out, at + 3 * i, *month);
     }
 }

@@ -1,6 +1,6 @@
 -- `building::refused_series` meets its contract. Assumes nothing.
-use mathlib.Core.Path.{◌≡◌, sym, ap, ◌∙◌}
-use mathlib.Core.Bool.{true, false}
+use mathlib.Core.Path.{◌≡◌, sym, ◌∙◌}
+use mathlib.Core.Bool.{true}
 use Prim.Native.Nat.{◌/◌}
 use native.Mathlib.Omega.{arith}
 use lib.Seq.{length-take-le}
@@ -10,18 +10,11 @@ use Rattle.building.specs.Building.{all_taken}
 use Rattle.building.specs.theory.Cases.{bounded}
 use Rattle.building.specs.theory.Blamed.{no_zone, not_taken, taken}
 use Rattle.building.proofs.refused_series.Goals as goal
-use Rattle.building.proofs.refused_series.Goals.{After-is_zone, Else-not-all_taken, Else-not-is_zone, Then-not-all_taken}
+use Rattle.building.proofs.refused_series.Goals.{Else-not-all_taken, Else-not-is_zone}
 
--- what is known of the zone
-zone_told : (c : After-is_zone) → c.is_zone.result ≡ is_zone c.args.zone
-zone_told c = c.is_zone.ensures ∙ ap is_zone (to_z-of_z c.ranges.zone)
-
+-- what is known of the zone and of the words
 in_zone : (c : Else-not-is_zone) → is_zone c.args.zone ≡ true
-in_zone c = sym (zone_told c.before) ∙ c.if-not-is_zone.false
-
--- and of the words
-is_not_taken : (c : Then-not-all_taken) → all_taken c.args.words.now c.args.bytes ≡ false
-is_not_taken c = sym c.all_taken.ensures ∙ c.if-not-all_taken.true
+in_zone c = sym (rw (to_z-of_z c.ranges.zone) at c.is_zone.ensures) ∙ c.if-not-is_zone.false
 
 is_taken : (c : Else-not-all_taken) → all_taken c.args.words.now c.args.bytes ≡ true
 is_taken c = sym c.all_taken.ensures ∙ c.if-not-all_taken.false
@@ -29,26 +22,27 @@ is_taken c = sym c.all_taken.ensures ∙ c.if-not-all_taken.false
 pub returns-then-not-is_zone : goal.returns-then-not-is_zone
 returns-then-not-is_zone c =
     let a = c.args in
-    no_zone a.words.now a.bytes a.zone (sym (zone_told c.before) ∙ c.if-not-is_zone.true)
+    no_zone a.words.now a.bytes a.zone (sym (rw (to_z-of_z c.ranges.zone) at c.is_zone.ensures) ∙ c.if-not-is_zone.true)
 
 pub returns-then-not-all_taken : goal.returns-then-not-all_taken
 returns-then-not-all_taken c =
     let a = c.args in
-    not_taken a.words.now a.bytes a.zone (in_zone c.before.before) (is_not_taken c)
+    not_taken a.words.now a.bytes a.zone (in_zone (goal.at.returns-then-not-all_taken c).Else-not-is_zone) (sym c.all_taken.ensures ∙ c.if-not-all_taken.true)
 
 pub slice_bounds-in_words-end : goal.slice_bounds-in_words-end
 slice_bounds-in_words-end c =
     let a = c.args in
-    let known = bounded a.words.now a.bytes (is_taken c) in
+    let known = bounded a.words.now a.bytes (is_taken (goal.at.slice_bounds-in_words-end c).Else-not-all_taken) in
     sym (length-take-le (a.bytes / 8) a.words.now known.1)
 
 pub in_words-requires : goal.in_words-requires
 in_words-requires c =
     let a = c.args in
-    let known = bounded a.words.now a.bytes (is_taken c) in
+    let known = bounded a.words.now a.bytes (is_taken (goal.at.in_words-requires c).Else-not-all_taken) in
     omega (arith, length-take-le (a.bytes / 8) a.words.now known.1, known.0)
 
 pub returns : goal.returns
 returns c =
     let a = c.args in
-    c.in_words.ensures ∙ sym (taken a.words.now a.bytes a.zone (in_zone c.before.before.before) (is_taken c.before))
+    let at = goal.at.returns c in
+    c.in_words.ensures ∙ sym (taken a.words.now a.bytes a.zone (in_zone at.Else-not-is_zone) (is_taken at.Else-not-all_taken))

@@ -1,5 +1,5 @@
 -- The parts of judging a sui and a month, test after test, as the leaves make them. Assumes nothing.
-use Rattle.std.specs.Prelude.{◌≡◌, Bool, ◌||◌, ℕ, zero, suc, ◌+◌, ◌*◌, ◌-◌, ◌≤◌, ◌<◌, eqb, leb, ℤ, ◌+ℤ◌, ◌-ℤ◌, ◌*ℤ◌}
+use Rattle.std.specs.Prelude.{◌≡◌, Bool, ◌||◌, Some, None, ℕ, zero, suc, ◌+◌, ◌*◌, ◌-◌, ◌≤◌, ◌<◌, eqb, leb, ℤ, ◌+ℤ◌, ◌-ℤ◌, ◌*ℤ◌}
 use Rattle.std.proofs.Math.Path.{refl, sym, ap}
 use Rattle.std.proofs.Common.{ap₂, ◌∙◌, mod-lt}
 use Rattle.std.proofs.Math.Bool.{true, false}
@@ -18,8 +18,7 @@ use Rattle.dates.specs.Answers.{has_date}
 use Rattle.months.specs.Handles.{ordinal, handle, handle_at}
 use Rattle.months.proofs.theory.Numbering.{before_leap, from_leap, at_leap, not_at_leap}
 use Rattle.content.specs.Content.{month_at, good_handle, good_start}
-use Rattle.content.specs.Steps.{sui_after, days_after, ordinary, handle_after, leap_handle, stopped, walked_on}
-use Rattle.content.specs.theory.Judged.{after_twelfth}
+use Rattle.content.specs.Steps.{sui_after, days_after, ordinary, handle_after, leap_handle, walked_on}
 
 -- ---- a sui
 module _ (due year count : ℤ) where
@@ -155,12 +154,12 @@ module _ (year count : ℤ) (leaps place : ℕ) (h : ℤ) where
 
 -- ---- one month more
 module _ (year count : ℤ) (leaps place : ℕ) (due h first length : ℤ) where
-  pub days_stop : days_after due first length ≡ false → stopped ≡ walked_on year count leaps place due h first length
+  pub days_stop : days_after due first length ≡ false → None ≡ walked_on year count leaps place due h first length
   unfolding walked_on
   days_stop e = rw e
 
   module _ (days : days_after due first length ≡ true) (inside : place < 13) (before : leaps ≤ place) where
-    pub ordinary_on : is_exactly (ordinary year (place - leaps)) h ≡ true → record { good = true; leaps = leaps; next = handle_after year (ordinary year (place - leaps)); due = first +ℤ length } ≡ walked_on year count leaps place due h first length
+    pub ordinary_on : is_exactly (ordinary year (place - leaps)) h ≡ true → Some (record { leaps = leaps; next = handle_after year (ordinary year (place - leaps)); due = first +ℤ length }) ≡ walked_on year count leaps place due h first length
     unfolding walked_on
     ordinary_on e =
         let is : h ≡ ordinary year (place - leaps) = exactly_says (ordinary year (place - leaps)) h e in
@@ -174,11 +173,11 @@ module _ (year count : ℤ) (leaps place : ℕ) (due h first length : ℤ) where
       not_ordinary : is_exactly (handle_at year 13 (place - leaps)) h ≡ false
       not_ordinary = rw (ordinary_at year (place - leaps) (omega arith)) other
 
-      pub handle_stops : leap_handle year count leaps place h ≡ false → stopped ≡ walked_on year count leaps place due h first length
+      pub handle_stops : leap_handle year count leaps place h ≡ false → None ≡ walked_on year count leaps place due h first length
       unfolding walked_on
       handle_stops e = let bad : good_handle year count leaps place h ≡ false = ordinary_or_leap year count leaps place h ∙ none_of (is_exactly (handle_at year 13 (place - leaps)) h) (leap_handle year count leaps place h) not_ordinary e in rw (days, bad)
 
-      pub leap_on : leap_handle year count leaps place h ≡ true → record { good = true; leaps = leaps + 1; next = ordinary year (place - leaps); due = first +ℤ length } ≡ walked_on year count leaps place due h first length
+      pub leap_on : leap_handle year count leaps place h ≡ true → Some (record { leaps = leaps + 1; next = ordinary year (place - leaps); due = first +ℤ length }) ≡ walked_on year count leaps place due h first length
       unfolding walked_on
       leap_on e =
           let is : h ≡ handle year (ordinal (place + 11)) 1 = leap_says year count leaps place h e ∙ leap_at year place in

@@ -1,5 +1,5 @@
 -- A walk over suis and months, record after record: what it knows where it stands, one turn, and how it ends. Assumes nothing.
-use Rattle.std.specs.Prelude.{◌≡◌, Bool, ◌&&◌, List, [], ◌∷◌, eqb, leb, ℤ, negsuc, nat_abs, ◌+ℤ◌, ◌-ℤ◌}
+use Rattle.std.specs.Prelude.{◌≡◌, Bool, ◌&&◌, Option, Some, None, is_some, IfSome, List, [], ◌∷◌, eqb, leb, ℤ, negsuc, nat_abs, ◌+ℤ◌, ◌-ℤ◌}
 use Rattle.std.proofs.Math.Path.{refl, sym, ap}
 use Rattle.std.proofs.Common.{◌∙◌, div-add-mod', leb-true, eqb-true}
 use Rattle.std.proofs.Math.Bool.{true, false, cond}
@@ -7,6 +7,7 @@ use Prim.Native.Nat.{ℕ, zero, suc, ◌+◌, ◌*◌, ◌-◌, ◌/◌, ◌%◌
 use native.Mathlib.Omega.{arith}
 use Rattle.std.proofs.Math.IntN.{pos}
 use Rattle.std.proofs.Math.ListN.{length}
+use Rattle.std.specs.Bool.{then_some}
 use Rattle.whole.specs.Parts.{◌⩽◌, ℤ_rules}
 use Rattle.whole.specs.Solver.{⇑, ⇓, ring}
 use Rattle.whole.specs.Booleans.{both, first_fails, not_both}
@@ -19,7 +20,7 @@ use Rattle.dates.specs.Answers.{has_date}
 use Rattle.clock.specs.Leap.{leap_lawful}
 use Rattle.content.specs.declared.inner.Walked.{Walked}
 use Rattle.content.specs.Content.{content, year_at, count_at, month_at, months_before, follows_year, good_sui, leaps_before, good_handle, good_start, good_days, good_month, good_months, good_sui_months, whole_suis, lawful}
-use Rattle.content.specs.Steps.{year_due, sui_after, day_due, days_after, ordinary, stopped, walked_on, suis_lawful}
+use Rattle.content.specs.Steps.{year_due, sui_after, day_due, days_after, ordinary, walked_on, suis_lawful}
 use Rattle.content.specs.theory.Walk.{Due}
 
 pub first_due : (months : List ℤ) → has_date (month_at months 0).first ≡ true → Due months 0 (month_at months 0).first
@@ -53,31 +54,40 @@ due_next months k dated good =
     let high = ⇓ ρ l.1 (search ring depth 9) in
     record { dated = dated; is = refl; small = record { within = ⇑ ρ (search ring depth 9) (omega arith) } }
 
+-- an answer by a test: it is there exactly where the test holds, and then it is this number
+pub told_by : (P : ℤ → Type 0) (b : Bool) (z : ℤ) → P z → (is_some (then_some b z) ≡ b) × IfSome (then_some b z) P
+told_by P true z p = (refl, p)
+told_by P false z p = (refl, tt)
+
 -- ---- one month more: what the answer of the judge tells
-module _ (year count : ℤ) (leaps place : ℕ) (due h first length : ℤ) (r : Walked) (is : r ≡ walked_on year count leaps place due h first length) where
-  pub record WentOn : Type 0 where
+module _ (year count : ℤ) (leaps place : ℕ) (due h first length : ℤ) where
+  pub record WentOn (r : Walked) : Type 0 where
     pub days : days_after due first length ≡ true
     pub handle : good_handle year count leaps place h ≡ true
     pub leaps_on : r.leaps ≡ leaps + floor_mod h 2
     pub next_on : r.next ≡ ordinary year (place + 1 - (leaps + floor_mod h 2))
     pub due_on : r.due ≡ first +ℤ length
 
-  pub went_on : r.good ≡ true → WentOn
+  abbrev on : Walked
+  on = record { leaps = leaps + floor_mod h 2; next = ordinary year (place + 1 - (leaps + floor_mod h 2)); due = first +ℤ length }
+
+  pub went_on : (r : Walked) → Some r ≡ walked_on year count leaps place due h first length → WentOn r
   unfolding walked_on
-  went_on good = go (days_after due first length && good_handle year count leaps place h) refl is
+  went_on r is = go (days_after due first length && good_handle year count leaps place h) refl is
     where
-      go : (b : Bool) → (days_after due first length && good_handle year count leaps place h) ≡ b → r ≡ cond b (record { good = true; leaps = leaps + floor_mod h 2; next = ordinary year (place + 1 - (leaps + floor_mod h 2)); due = first +ℤ length }) stopped → WentOn
+      go : (b : Bool) → (days_after due first length && good_handle year count leaps place h) ≡ b → Some r ≡ cond b (Some on) None → WentOn r
       go true e p =
           let t = both (days_after due first length) (good_handle year count leaps place h) e in
-          record { days = t.0; handle = t.1; leaps_on = ap (λ (w : Walked). w.leaps) p; next_on = ap (λ (w : Walked). w.next) p; due_on = ap (λ (w : Walked). w.due) p }
-      go false e p = not_both good (ap (λ (w : Walked). w.good) p)
+          let same : r ≡ on = cc in
+          record { days = t.0; handle = t.1; leaps_on = ap (λ (w : Walked). w.leaps) same; next_on = ap (λ (w : Walked). w.next) same; due_on = ap (λ (w : Walked). w.due) same }
+      go false e p = absurd (cc)
 
-  pub went_no_further : r.good ≡ false → (days_after due first length && good_handle year count leaps place h) ≡ false
+  pub went_no_further : None ≡ walked_on year count leaps place due h first length → (days_after due first length && good_handle year count leaps place h) ≡ false
   unfolding walked_on
-  went_no_further bad = go (days_after due first length && good_handle year count leaps place h) refl is
+  went_no_further is = go (days_after due first length && good_handle year count leaps place h) refl is
     where
-      go : (b : Bool) → (days_after due first length && good_handle year count leaps place h) ≡ b → r ≡ cond b (record { good = true; leaps = leaps + floor_mod h 2; next = ordinary year (place + 1 - (leaps + floor_mod h 2)); due = first +ℤ length }) stopped → (days_after due first length && good_handle year count leaps place h) ≡ false
-      go true e p = not_both (ap (λ (w : Walked). w.good) p) bad
+      go : (b : Bool) → (days_after due first length && good_handle year count leaps place h) ≡ b → None ≡ cond b (Some on) None → (days_after due first length && good_handle year count leaps place h) ≡ false
+      go true e p = absurd (cc)
       go false e p = e
 
 -- ---- the months of a sui, which stand from month `from` on
@@ -95,17 +105,21 @@ module _ (months : List ℤ) (year count : ℤ) (from : ℕ) where
   unfolding leaps_before
   no_month_yet next day e d = record { few = omega arith; good = every_none (good_month months year count from); counted = refl; at_most = omega arith; handle = e; due = let same : from + 0 ≡ from = omega arith in rw same d }
 
-  module _ (place leaps : ℕ) (next day : ℤ) (s : MonthsSoFar place leaps next day) (r : Walked) (is : r ≡ walked_on year count leaps place day (month_at months (from + place)).handle (month_at months (from + place)).first (month_at months (from + place)).length) where
+  module _ (place leaps : ℕ) (next day : ℤ) (s : MonthsSoFar place leaps next day) where
+    -- the judge of the month at this place
+    abbrev judge : Option Walked
+    judge = walked_on year count leaps place day (month_at months (from + place)).handle (month_at months (from + place)).first (month_at months (from + place)).length
+
     month_judged : good_month months year count from place ≡ (good_handle year count leaps place (month_at months (from + place)).handle && days_after day (month_at months (from + place)).first (month_at months (from + place)).length)
     unfolding good_month
     month_judged = rw (s.counted, days_judged months (from + place) day s.due)
 
-    pub month_next : place < nat_abs count → r.good ≡ true → MonthsSoFar (place + 1) r.leaps r.next r.due
+    pub month_next : (r : Walked) → Some r ≡ judge → place < nat_abs count → MonthsSoFar (place + 1) r.leaps r.next r.due
     unfolding leaps_before
-    month_next h good =
+    month_next r is h =
         let k = from + place in
         let z = (month_at months k).handle in
-        let on = went_on year count leaps place day z (month_at months k).first (month_at months k).length r is good in
+        let on = went_on year count leaps place day z (month_at months k).first (month_at months k).length r is in
         let one : place + 1 ≡ suc place = omega arith in
         let up : from + suc place ≡ suc (from + place) = omega arith in
         let mark = floor_mod_lt z 2 (omega arith) in
@@ -118,12 +132,12 @@ module _ (months : List ℤ) (year count : ℤ) (from : ℕ) where
           due = rw (one, up, on.due_on) (due_next months k s.due.dated (sym (days_judged months k day s.due) ∙ on.days));
         }
 
-    pub month_stops : place < nat_abs count → r.good ≡ false → false ≡ good_months months year count from
+    pub month_stops : None ≡ judge → place < nat_abs count → false ≡ good_months months year count from
     unfolding good_months
-    month_stops h bad =
+    month_stops is h =
         let k = from + place in
         let z = (month_at months k).handle in
-        let no_more = went_no_further year count leaps place day z (month_at months k).first (month_at months k).length r is bad in
+        let no_more = went_no_further year count leaps place day z (month_at months k).first (month_at months k).length is in
         let here : good_month months year count from place ≡ false = month_judged ∙ swapped (good_handle year count leaps place z) (days_after day (month_at months k).first (month_at months k).length) no_more in
         sym (first_fails (every (good_month months year count from) (nat_abs count)) _ (every_false (good_month months year count from) (nat_abs count) place h here))
       where
@@ -205,6 +219,10 @@ module _ (suis months : List ℤ) where
       go : (b : Bool) → suis_lawful suis months ≡ b → false ≡ suis_lawful suis months
       go true e = absurd (f e)
       go false e = sym e
+
+  -- a month lacks words
+  pub month_cut : 0 < length months % 3 → false ≡ suis_lawful suis months
+  month_cut h = unlawful (λ e. omega (arith, (parts e).1.0))
 
   module _ (some : 1 ≤ length suis / 2) where
     first_sui : suis_lawful suis months ≡ true → good_sui suis 0 ≡ true

@@ -1,13 +1,10 @@
 -- The day on which a month is due, as a walk over months knows it. Assumes nothing.
-use Rattle.std.specs.Prelude.{◌≡◌, List, ℤ, ◌+ℤ◌, ◌-ℤ◌}
-use Rattle.std.proofs.Math.Bool.{true, cond}
-use Prim.Native.Nat.{ℕ, suc, ◌+◌, ◌*◌, ◌-◌, ◌<◌}
-use Rattle.std.proofs.Math.IntN.{pos}
-use Rattle.std.proofs.Math.ListN.{length}
+use Rattle.std.specs.Prelude.{◌≡◌, List, ℤ}
+use Rattle.std.proofs.Math.Bool.{true}
+use Prim.Native.Nat.{ℕ}
 use Rattle.whole.specs.Ranges.{Within}
-use Rattle.whole.specs.Tests.{is_exactly}
 use Rattle.dates.specs.Answers.{has_date}
-use Rattle.content.specs.Content.{month_at, good_start}
+use Rattle.content.specs.Content.{month_at}
 use Rattle.content.specs.Steps.{day_due}
 
 -- ---- days

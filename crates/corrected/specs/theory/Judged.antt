@@ -4,7 +4,7 @@ use Rattle.std.specs.Prelude.{◌≡◌, Bool, false, List, ℕ, ◌+◌, ◌*�
 use Rattle.std.proofs.Common.{sym, ap, ap₂, ◌∙◌, arith}
 use Rattle.std.proofs.Math.Decide.{dec_lt}
 use Rattle.std.specs.Int.Signed.{lt_z}
-use Rattle.refusals.specs.Verdict.{Verdict, accepted, before_accepted, ◌before◌}
+use Rattle.refusals.specs.Verdict.{Verdict, refused, accepted, before_accepted, ◌before◌}
 use Rattle.refusals.specs.Search.{first_bad, first_bad_none}
 use Rattle.chebyshev.specs.Polynomials.{S}
 use Rattle.chebyshev.specs.Segment.{value, slope, out_of_range}
@@ -15,7 +15,7 @@ use Rattle.series.specs.Acceptance.{judged_shape, series_judged, Accepted, bad_r
 use Rattle.corrected.specs.Shared.{Shared}
 use Rattle.corrected.specs.theory.Compared.{SameAt}
 use Rattle.corrected.specs.theory.Parts.{part_of, part_segments, part_segment}
-use Rattle.corrected.specs.theory.Shifted.{shifted_by, shifted_before, looked_for_in_part, Below, ◌and◌, first_bad_below}
+use Rattle.corrected.specs.theory.Shifted.{shifted_by, shifted_before, looked_for_in_part, Below, ◌and◌, first_bad_below, either_refuses, refused_by}
 
 -- a part from `from` on and before `to`, of n segments, that reaches a segment before `first` and one behind `end`, where there are such
 pub record Around (n first end from to : ℕ) : Type 0 where
@@ -142,3 +142,12 @@ segments_below body coefs =
     first_bad_below 3 (bad_range coefs) (segments coefs + 1) 0 (segments coefs) (omega arith)
     and first_bad_below 4 (slow body coefs) (segments coefs + 1) 0 (segments coefs) (omega arith)
     and first_bad_below 5 (bad_joint body coefs) (segments coefs + 1) 1 (segments coefs - 1) (omega arith)
+
+-- by 3, 4 or 5
+pub refused_by_segment : {number segment : ℕ} (body : Body) (coefs : List ℤ) → judged_segments body coefs ≡ refused number segment → (3 ≤ number) × (number ≤ 5)
+refused_by_segment body coefs =
+    either_refuses (ranges_of body coefs) (slopes_of body coefs before joints_of body coefs)
+    (λ e. let by = refused_by 3 (bad_range coefs) 0 (segments coefs) e in (omega (arith, by), omega (arith, by)))
+    (either_refuses (slopes_of body coefs) (joints_of body coefs)
+    (λ e. let by = refused_by 4 (slow body coefs) 0 (segments coefs) e in (omega (arith, by), omega (arith, by)))
+    (λ e. let by = refused_by 5 (bad_joint body coefs) 1 (segments coefs - 1) e in (omega (arith, by), omega (arith, by))))

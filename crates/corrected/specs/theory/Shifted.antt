@@ -6,8 +6,9 @@ use Rattle.std.proofs.Common.{ap, ◌∙◌}
 use Rattle.std.proofs.Math.Bool.{true, false, cond}
 use Prim.Native.Nat.{ℕ, zero, suc, ◌+◌, ◌<◌, ◌≤◌}
 use native.Mathlib.Omega.{arith}
-use Rattle.refusals.specs.Verdict.{Verdict, answered, refused, accepted, ◌before◌}
+use Rattle.refusals.specs.Verdict.{Verdict, answered, refused, accepted, ◌before◌, refusal_number, refusal_segment, refusal, answer_or_refusal}
 use Rattle.refusals.specs.Search.{first_bad, none_first_bad}
+use Rattle.refusals.specs.declared.Refusal.{Refusal}
 
 -- what is said of a part that so many segments lie before
 abbrev pub shifted_by : ℕ → Verdict (Unit {0}) → Verdict (Unit {0})
@@ -34,10 +35,6 @@ pub ◌and◌ : {n : ℕ} {u v : Verdict (Unit {0})} → Below n u → Below n v
 pub refused_below : {n number segment : ℕ} {v : Verdict (Unit {0})} → Below n v → v ≡ refused number segment → segment < n
 refused_below {n} h e = rw e at h.below
 
-pub shifted_below : {n m : ℕ} {v : Verdict (Unit {0})} (from : ℕ) → Below n v → from + n ≤ m → Below m (shifted_by from v)
-shifted_below {v = answered a} from h l = record { below = tt }
-shifted_below {v = refused number segment} from h l = record { below = omega (arith, h.below) }
-
 pub first_bad_below : (number : ℕ) (bad : ℕ → Bool) (n k m : ℕ) → k + m ≤ n → Below n (first_bad number bad k m)
 unfolding first_bad
 first_bad_below number bad n k zero h = record { below = tt }
@@ -46,6 +43,25 @@ first_bad_below number bad n k (suc m) h = go (first_bad_below number bad n (suc
     go : Below n (first_bad number bad (suc k) m) → (b : Bool) → Below n (cond b (refused number k) (first_bad number bad (suc k) m))
     go behind true = record { below = omega arith }
     go behind false = behind
+
+-- of two judges that refuse, one does
+pub either_refuses : {X : Type 0} {number segment : ℕ} (u v : Verdict (Unit {0})) → (u ≡ refused number segment → X) → (v ≡ refused number segment → X) → u before v ≡ refused number segment → X
+either_refuses (answered tt) v first second e = second e
+either_refuses (refused n k) v first second e = first e
+
+-- and a search refuses by its own number
+pub refused_by : {number segment : ℕ} (own : ℕ) (bad : ℕ → Bool) (k m : ℕ) → first_bad own bad k m ≡ refused number segment → number ≡ own
+unfolding first_bad
+refused_by own bad k zero e = answer_or_refusal e
+refused_by {number} {segment} own bad k (suc m) e = go (refused_by own bad (suc k) m) (bad k) e
+  where
+    go : (first_bad own bad (suc k) m ≡ refused number segment → number ≡ own) → (b : Bool) → cond b (refused own k) (first_bad own bad (suc k) m) ≡ refused number segment → number ≡ own
+    go behind true p = cc
+    go behind false p = behind p
+
+-- ---- a refusal that stays the same but for its segment, which is `from` more, says of the whole what the other says of the part
+pub shifted_refusal : (from : ℕ) (r s : Refusal) {v : Verdict (Unit {0})} → v ≡ refusal r → refusal_number s ≡ refusal_number r → refusal_segment s ≡ from + refusal_segment r → refusal s ≡ shifted_by from v
+shifted_refusal from r s e p q = rw (e, p, q)
 
 -- ---- the part's search
 module _ (number : ℕ) (bad : ℕ → Bool) where

@@ -10,7 +10,10 @@ use Rattle.series.specs.Bodies.{numbers}
 use Rattle.series.specs.Series.{Series, segments, value_at, last_second, covers}
 use Rattle.series.specs.Acceptance.{Accepted, bad_range, slow, bad_joint, series_judged, value_of}
 use Rattle.series.proofs.theory.Span.{span_few}
-use Rattle.served.specs.Served.{Side, near, long, chosen, Served, served_by, serves}
+use Rattle.served.specs.declared.Served.{Served}
+use Rattle.served.specs.declared.Side.{Side}
+use Rattle.served.specs.declared.Side.TheVariants.{Near, Long}
+use Rattle.served.specs.Served.{chosen, served_by, serves}
 use Rattle.served.proofs.Theorems.{segment_there}
 use Rattle.replacing.specs.Replaced.{replaced, series_with, segment_replaced, segment_checked}
 use Rattle.marks.specs.Words.{mark_words}
@@ -68,12 +71,12 @@ module _ (n l : Series) (second : ℤ) (Near-fits : length n.coefs < 2 ^ 63) (lo
   choice_fits false false g h = record { small = omega arith; numbered = tt }
 
   few_segments : (side : Side) → segments (chosen side n l).coefs < 2 ^ 63
-  few_segments near = omega arith
-  few_segments long = omega arith
+  few_segments Near = omega arith
+  few_segments Long = omega arith
 
   all_fit : Fits none (serves n l second)
   unfolding serves
-  all_fit = series_fits n Near-fits and series_fits l long-fits and choice_fits (covers n second) (covers l second) (served_by near n second) (served_by long l second)
+  all_fit = series_fits n Near-fits and series_fits l long-fits and choice_fits (covers n second) (covers l second) (served_by Near n second) (served_by Long l second)
 
   pub serves_fits : Fits served_size (serves n l second)
   serves_fits = with_answer all_fit (λ g e. let few = few_segments g.side in omega (arith, segment_there n l second e))

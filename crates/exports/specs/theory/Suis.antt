@@ -1,6 +1,6 @@
 -- The months of a sui: a sui has all the months that it counts, and the segment of a refusal fits a word; what storing them says of each case. Assumes nothing but
 -- what a statement says itself.
-use Rattle.std.specs.Prelude.{◌≡◌, refl, not, List, [], ◌∷◌, ◌++◌, ℕ, ◌+◌, ◌*◌, ◌^◌, ◌<◌, ◌≤◌, ltb, ℤ, ◌-ℤ◌}
+use Rattle.std.specs.Prelude.{◌≡◌, refl, not, List, [], ◌∷◌, ◌++◌, ℕ, ◌+◌, ◌*◌, ◌^◌, ◌<◌, ◌≤◌, ltb, ℤ, ◌-ℤ◌, Result, Ok, Err}
 use Rattle.std.proofs.Math.Path.{ap}
 use Rattle.std.proofs.Common.{◌∙◌, length-append, length-take-le}
 use borrow.Author.Tests.{lt-ltb, le-ltb}
@@ -10,18 +10,15 @@ use Rattle.std.proofs.Math.ListN.{length, drop}
 use Rattle.whole.specs.Lists.{placed}
 use Rattle.whole.specs.Tabulated.{length_tabulate}
 use Rattle.refusals.specs.declared.Refusal.{Refusal}
-use Rattle.refusals.specs.declared.Check.TheVariants.{Accepted, Refused}
-use Rattle.refusals.specs.Verdict.{Verdict, answered, refused, refusal}
+use Rattle.refusals.specs.Verdict.{Verdict, answered, refused, refusal, paper}
 use Rattle.refusals.specs.Lent.{written_into}
 use Rattle.marks.specs.Marks.{Mark}
 use Rattle.marks.specs.Listed.{listed_marks}
 use Rattle.inputs.specs.Inputs.{Inputs, sun, moon}
 use Rattle.months.specs.declared.SuiDays.{SuiDays}
 use Rattle.months.specs.declared.Sui.{Sui}
-use Rattle.months.specs.declared.SuiAnswer.{SuiAnswer}
 use Rattle.months.specs.Months.{moon_missing, twelve_or_thirteen, month_count, first_bad_month, lengths_judged, numbered, days_of, sui_of, sui_in}
 use Rattle.months.specs.Limits.{year_in_range, lists_kept, months_of}
-use Rattle.months.specs.Answers.{sui_answer, paper_sui}
 use Rattle.months.proofs.Theorems.{accepted_is_sui}
 use Rattle.months.proofs.theory.Days.{found_twelve}
 use Rattle.months.proofs.theory.Listed.{at_most_thirteen}
@@ -30,9 +27,8 @@ use Rattle.sui.specs.Sui.{one_solstice, solstices_of, new_moon_days_of, zhongqi_
 use Rattle.sui.proofs.Theorems.{answered_is_sui}
 use Rattle.built.specs.Build.{months_in}
 use Rattle.built.specs.theory.Words.{length_words_of}
-use Rattle.answers.specs.Record.{record_of, no_numbers, count_numbers}
-use Rattle.answers.specs.Months.{sui_words, sui_into, sui_numbers}
-use Rattle.answers.specs.Fits.{Fits, none, answer, test, ◌and◌, and_then}
+use Rattle.answers.specs.Months.{sui_words, sui_into}
+use Rattle.answers.specs.Fits.{Fits, none, sui_size, answer, test, ◌and◌, and_then}
 use Rattle.exports.specs.theory.Sky.{inputs_fit_in}
 
 -- ---- what storing asks
@@ -93,48 +89,41 @@ months_storable year moons zhongqi = record { fits = months_fit year moons zhong
 pub sui_storable : (i : Inputs) → length i.sun_coefs < 2 ^ 63 → length i.moon_coefs < 2 ^ 63 → (zone year : ℤ) → Storable (sui_for i zone year)
 sui_storable i h k zone year = record { fits = sui_fits i zone h k year; whole = λ sui e. has_all (answered_is_sui i zone year e).is_sui }
 
-pub stored_fits : {v : Verdict Sui} → Storable v → (room : ℕ) → Fits none (sui_into v room)
+-- and what is stored has a record
+pub stored_fits : {v : Verdict Sui} → Storable v → (room : ℕ) → Fits sui_size (sui_into v room)
 unfolding sui_into
-stored_fits s room = and_then s.fits (λ sui. test (ltb room (length (sui_words sui))) 12 tt and answer (omega arith))
-
--- what was found, on paper
-pub on_paper : {r : SuiAnswer} (v : Verdict Sui) → r ≡ sui_answer v → paper_sui r ≡ v
-on_paper (answered sui) e = rw e
-on_paper (refused number segment) e = rw e
+stored_fits {v = answered sui} s room = test (ltb room (length (sui_words sui))) 12 tt and answer (omega (arith, (s.whole sui refl).few))
+stored_fits {v = refused number segment} s room = record { small = s.fits.small; numbered = s.fits.numbered }
 
 -- ---- storing, case by case
 pub word_count : (sui : Sui) → Whole sui → length (sui_words sui) ≡ 3 * sui.count
 word_count sui w = length_words_of (months_in sui) ∙ ap (λ (n : ℕ). 3 * n) (length-take-le sui.count sui.months w.has_months)
 
-module _ (found : SuiAnswer) (out : List ℤ) where
-  abbrev pub Promises : List ℤ → List ℤ → Type 0
-  Promises words last = (words ≡ record_of (sui_into (paper_sui found) (length out)) sui_numbers) × (last ≡ written_into (sui_into (paper_sui found) (length out)) sui_words out)
+module _ (found : Result Sui Refusal) (out : List ℤ) where
+  abbrev pub Promises : Verdict Sui → List ℤ → Type 0
+  Promises stored last = (stored ≡ sui_into (paper found) (length out)) × (last ≡ written_into (sui_into (paper found) (length out)) sui_words out)
 
   -- what was found is a refusal
-  module _ (r : Refusal) (is-refused : found.check ≡ Refused r) where
-    pub segment_small : Storable (paper_sui found) → r.segment < 2 ^ 63
-    segment_small s = rw is-refused at s.fits.small
-
-    pub store_refused : {words : List ℤ} → words ≡ record_of (refusal r) no_numbers → Promises words out
-    unfolding sui_into
-    store_refused e = rw is-refused (e, refl)
+  pub store_refused : (r : Refusal) → found ≡ Err r → Promises (refusal r) out
+  unfolding sui_into
+  store_refused r e = rw e (refl, refl)
 
   -- or a sui, for which there is room or not
-  module _ (is_found : found.check ≡ Accepted) (s : Storable (paper_sui found)) where
-    pub is_whole : Whole found.sui
-    is_whole = s.whole found.sui (rw is_found)
+  module _ (sui : Sui) (is_found : found ≡ Ok sui) (s : Storable (paper found)) where
+    pub is_whole : Whole sui
+    is_whole = s.whole sui (rw is_found)
 
-    pub store_short : {words : List ℤ} → length out < 3 * found.sui.count → words ≡ record_of (refused 12 0) no_numbers → Promises words out
+    pub store_short : length out < 3 * sui.count → Promises (refused 12 0) out
     unfolding sui_into
-    store_short h e =
-        let many = word_count found.sui is_whole in
-        let short = lt-ltb (length out) (length (sui_words found.sui)) (omega arith) in
-        rw (is_found, short) (e, refl)
+    store_short h =
+        let many = word_count sui is_whole in
+        let short = lt-ltb (length out) (length (sui_words sui)) (omega arith) in
+        rw (is_found, short) (refl, refl)
 
-    pub store_all : {words last : List ℤ} → 3 * found.sui.count ≤ length out → words ≡ record_of (answered found.sui.count) count_numbers → last ≡ placed 0 (sui_words found.sui) out → Promises words last
+    pub store_all : {last : List ℤ} → 3 * sui.count ≤ length out → last ≡ placed 0 (sui_words sui) out → Promises (answered sui) last
     unfolding sui_into
-    store_all h e p =
-        let many = word_count found.sui is_whole in
-        let fits = le-ltb (length out) (length (sui_words found.sui)) (omega arith) in
-        let behind : 0 + length (sui_words found.sui) ≡ length (sui_words found.sui) = omega arith in
-        rw (is_found, fits) (e, p ∙ ap (λ (n : ℕ). sui_words found.sui ++ drop n out) behind)
+    store_all h p =
+        let many = word_count sui is_whole in
+        let fits = le-ltb (length out) (length (sui_words sui)) (omega arith) in
+        let behind : 0 + length (sui_words sui) ≡ length (sui_words sui) = omega arith in
+        rw (is_found, fits) (refl, p ∙ ap (λ (n : ℕ). sui_words sui ++ drop n out) behind)

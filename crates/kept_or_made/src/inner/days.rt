@@ -52,11 +52,11 @@ pub fn keep_days(
     ensures { out.new ≡ placed 0 (days_of_years (inputs leap.now sunstart.0 sun.now moonstart.0 moon.now) zone first n) out.old }
 {
     let place = places.solstice;
-    let mut j: usize = 0;
     let mut from: usize = 0;
-    while j < n {
+    for j in 0..n {
         let year = add(first, signed(j));
-        let found = days_after(
+        // never refused: all are found
+        let days = days_after(
             leap,
             sunstart,
             sun,
@@ -72,11 +72,10 @@ pub fn keep_days(
             solstices,
             newmoons,
             zhongqi,
-        );
-        let days = found.days;
+        )
+        .unwrap();
         let words = days_words(days);
         put_words(&words, out, 28 * j);
         from += days.months;
-        j += 1;
     }
 }

@@ -1,13 +1,14 @@
 // The suis of n years put again, one after another.
 ghost use Rattle.std.specs.Prelude.{◌≡◌, List, ◌++◌, ◌+◌, ◌*◌, ◌≤◌, length, drop};
 ghost use Rattle.inputs.specs.Inputs.{inputs};
-ghost use Rattle.refusals.specs.Verdict.{answered};
+ghost use Rattle.refusals.specs.Verdict.{answered, paper};
 ghost use Rattle.months.specs.declared.Sui.{Sui};
 ghost use Rattle.built.specs.Build.{suis_from, sui_words, month_words};
 ghost use Rattle.build.specs.theory.Walk.{Walks};
-ghost use Rattle.kept_or_made.specs.Again.{paper_again, listed_again, years_again, Copies};
+ghost use Rattle.kept_or_made.specs.Again.{listed_again, years_again, Copies};
 
-use super::years::{Again, AgainAnswer, year_again};
+use super::years::{Again, year_again};
+use refusals::Refusal;
 use suis::inner::Places;
 use times::Second;
 use turns::inner::TurnList;
@@ -35,23 +36,22 @@ pub fn put_years_again(
     suis: &mut [i64],
     months: &mut [i64],
     kept: &mut [i64],
-) -> AgainAnswer
+) -> Result<Again, Refusal>
     requires walks { Walks (inputs leap.now sunstart.0 sun.now moonstart.0 moon.now) zone suns moons places first n solstices.now newmoons.now zhongqi.now }
     requires copies { Copies (inputs leap.now sunstart.0 sun.now moonstart.0 moon.now) zone first n before.now old.now at }
     requires n_in_bounds { 2 * n ≤ length suis.old }
     requires n_in_bounds_2 { 39 * n ≤ length months.old }
     requires n_in_bounds_3 { n ≤ length kept.old }
-    ensures result_value { paper_again result ≡ years_again (inputs leap.now sunstart.0 sun.now moonstart.0 moon.now) zone first before.now n }
+    ensures result_value { paper result ≡ years_again (inputs leap.now sunstart.0 sun.now moonstart.0 moon.now) zone first before.now n }
     ensures suis_after { (found : List Sui) → suis_from (inputs leap.now sunstart.0 sun.now moonstart.0 moon.now) zone first n ≡ answered found → suis.new ≡ sui_words first found ++ drop (length (sui_words first found)) suis.old }
     ensures months_after { (found : List Sui) → suis_from (inputs leap.now sunstart.0 sun.now moonstart.0 moon.now) zone first n ≡ answered found → months.new ≡ month_words found ++ drop (length (month_words found)) months.old }
     ensures kept_after { (found : List Sui) → suis_from (inputs leap.now sunstart.0 sun.now moonstart.0 moon.now) zone first n ≡ answered found → kept.new ≡ listed_again (inputs leap.now sunstart.0 sun.now moonstart.0 moon.now) zone first before.now n ++ drop (length (listed_again (inputs leap.now sunstart.0 sun.now moonstart.0 moon.now) zone first before.now n)) kept.old }
 {
     let place = places.solstice;
-    let mut j: usize = 0;
     let mut from: usize = 0;
     let mut copied: usize = 0;
     let mut years: usize = 0;
-    while j < n {
+    for j in 0..n {
         let year = add(first, signed(j));
         let put = year_again(
             leap,
@@ -76,21 +76,13 @@ pub fn put_years_again(
             suis,
             months,
             kept,
-        );
-        match put {
-            AgainAnswer::Refused(r) => {
-                return AgainAnswer::Refused(r);
-            }
-            AgainAnswer::Again(a) => {
-                from += a.months;
-                years = a.years;
-                copied += count(before[28 * j]);
-                j += 1;
-            }
-        }
+        )?;
+        from += put.months;
+        years = put.years;
+        copied += count(before[28 * j]);
     }
-    AgainAnswer::Again(Again {
+    Ok(Again {
         months: from,
-        years: years,
+        years,
     })
 }

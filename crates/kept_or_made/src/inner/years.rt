@@ -4,43 +4,30 @@ ghost use Rattle.std.specs.Prelude.{◌≡◌, true, cond, [], ◌∷◌, ◌+�
 ghost use Rattle.whole.specs.Lists.{placed};
 ghost use Rattle.whole.specs.Evaluated.{same_words};
 ghost use Rattle.whole.specs.Ranges.{Within, All};
-ghost use Rattle.refusals.specs.Verdict.{answered};
+ghost use Rattle.refusals.specs.Verdict.{answered, paper};
 ghost use Rattle.inputs.specs.Inputs.{inputs};
 ghost use Rattle.months.specs.declared.SuiDays.{SuiDays};
 ghost use Rattle.months.specs.Months.{IsSuiDays, sui_of};
 ghost use Rattle.sui.specs.Sui.{sui_days};
 ghost use Rattle.suis.specs.Ahead.{YearIn};
 ghost use Rattle.rebuilt.specs.Rebuild.{days_words};
-ghost use Rattle.kept_or_made.specs.Again.{paper_put, paper_again, again_count, again_months, put_answered, months_at_place, year_count, year_months, year_listed, year_again};
+ghost use Rattle.kept_or_made.specs.Again.{again_count, again_months, put_answered, months_at_place, year_count, year_months, year_listed, year_again};
 
 use super::days::days_words;
 use alike::inner::same_words;
 use build::inner::records::{put_months, put_sui};
 use months::SuiDays;
 use reader::inner::read_months;
-use refusals::{Check, Refusal};
+use refusals::Refusal;
 use suis::inner::days_after;
 use times::Second;
 use turns::inner::TurnList;
-
-// How many months were put.
-#[derive(Clone, Copy)]
-pub enum PutAnswer {
-    Put(usize),
-    Refused(Refusal),
-}
 
 // How many months were put, and how many years are listed.
 #[derive(Clone, Copy)]
 pub struct Again {
     pub months: usize,
     pub years: usize,
-}
-
-#[derive(Clone, Copy)]
-pub enum AgainAnswer {
-    Again(Again),
-    Refused(Refusal),
 }
 
 // n months of a file, copied behind the words before them.
@@ -63,7 +50,7 @@ fn put_again(
     from: usize,
     suis: &mut [i64],
     months: &mut [i64],
-) -> PutAnswer
+) -> Result<usize, Refusal>
     requires within { Within 2500 year }
     requires sui_days { IsSuiDays days }
     requires all { All 1000000 days.moons }
@@ -72,7 +59,7 @@ fn put_again(
     requires from_bound { from ≤ 1664 }
     requires j_in_bounds { 2 * j + 2 ≤ length suis.old }
     requires from_in_bounds { 3 * from + 39 ≤ length months.old }
-    ensures result_value { paper_put result ≡ again_count same days.months (sui_of year days) }
+    ensures result_value { paper result ≡ again_count same days.months (sui_of year days) }
     ensures suis_after { suis.new ≡ put_answered (again_count same days.months (sui_of year days)) (λ count. year ∷ pos count ∷ []) (2 * j) suis.old }
     ensures months_after { months.new ≡ put_answered (again_months same (months_at_place old.now at days.months) (sui_of year days)) (λ words. words) (3 * from) months.old }
 {
@@ -80,17 +67,12 @@ fn put_again(
         let n = days.months;
         put_sui(suis, 2 * j, year, n);
         copy_months(old, at, n, months, 3 * from);
-        return PutAnswer::Put(n);
+        return Ok(n);
     }
-    let made = month_rule::inner::sui_of(year, days);
-    let check = made.check;
-    if let Check::Refused(r) = check {
-        return PutAnswer::Refused(r);
-    }
-    let sui = made.sui;
+    let sui = month_rule::inner::sui_of(year, days)?;
     put_sui(suis, 2 * j, year, sui.count);
     put_months(sui, months, 3 * from);
-    PutAnswer::Put(sui.count)
+    Ok(sui.count)
 }
 
 // Lists a year behind those before it, where its sui is kept; how many are listed then.
@@ -130,7 +112,7 @@ pub fn year_again(
     suis: &mut [i64],
     months: &mut [i64],
     kept: &mut [i64],
-) -> AgainAnswer
+) -> Result<Again, Refusal>
     requires year_in { YearIn (inputs leap.now sunstart.0 sun.now moonstart.0 moon.now) zone suns moons year place j from solstices.now newmoons.now zhongqi.now }
     requires months_in_bounds { (days : SuiDays) → sui_days (inputs leap.now sunstart.0 sun.now moonstart.0 moon.now) zone year ≡ answered days → same_words before.now (days_words days) ≡ true → at + 9 * days.months ≤ length old.now }
     requires j_bound { j < 128 }
@@ -138,31 +120,21 @@ pub fn year_again(
     requires j_in_bounds { 2 * j + 2 ≤ length suis.old }
     requires from_in_bounds { 3 * from + 39 ≤ length months.old }
     requires years_in_bounds { years < length kept.old }
-    ensures result_value { paper_again result ≡ year_again year (sui_days (inputs leap.now sunstart.0 sun.now moonstart.0 moon.now) zone year) before.now years }
+    ensures result_value { paper result ≡ year_again year (sui_days (inputs leap.now sunstart.0 sun.now moonstart.0 moon.now) zone year) before.now years }
     ensures suis_after { suis.new ≡ put_answered (year_count year (sui_days (inputs leap.now sunstart.0 sun.now moonstart.0 moon.now) zone year) before.now) (λ count. year ∷ pos count ∷ []) (2 * j) suis.old }
     ensures months_after { months.new ≡ put_answered (year_months year (sui_days (inputs leap.now sunstart.0 sun.now moonstart.0 moon.now) zone year) before.now old.now at) (λ words. words) (3 * from) months.old }
     ensures kept_after { kept.new ≡ put_answered (year_count year (sui_days (inputs leap.now sunstart.0 sun.now moonstart.0 moon.now) zone year) before.now) (λ count. year_listed year (sui_days (inputs leap.now sunstart.0 sun.now moonstart.0 moon.now) zone year) before.now) years kept.old }
 {
-    let found = days_after(
+    let days = days_after(
         leap, sunstart, sun, moonstart, moon, zone, suns, moons, year, place, j, from, solstices,
         newmoons, zhongqi,
-    );
-    let check = found.check;
-    if let Check::Refused(r) = check {
-        return AgainAnswer::Refused(r);
-    }
-    let days = found.days;
+    )?;
     let words = days_words(days);
     let same = same_words(before, &words);
-    let put = put_again(same, year, days, old, at, j, from, suis, months);
-    match put {
-        PutAnswer::Refused(r) => AgainAnswer::Refused(r),
-        PutAnswer::Put(n) => {
-            let listed = list_year(same, year, kept, years);
-            AgainAnswer::Again(Again {
-                months: n,
-                years: listed,
-            })
-        }
-    }
+    let n = put_again(same, year, days, old, at, j, from, suis, months)?;
+    let listed = list_year(same, year, kept, years);
+    Ok(Again {
+        months: n,
+        years: listed,
+    })
 }

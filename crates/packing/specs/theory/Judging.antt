@@ -1,5 +1,5 @@
 -- The first pass: one turn of its loop, and how far its counts have come. Assumes nothing.
-use Rattle.std.specs.Prelude.{◌≡◌, refl, Bool, List, [], eqb, length, drop, get_or}
+use Rattle.std.specs.Prelude.{◌≡◌, refl, Bool, List, [], eqb, length, drop, get_or, Result, Ok, Err}
 use Rattle.std.proofs.Common.{sym, ◌∙◌, add-one, drop-cons}
 use Rattle.std.proofs.Math.Path.{ap}
 use Rattle.std.proofs.Math.Bool.{true, false, cond}
@@ -7,8 +7,7 @@ use Prim.Native.Nat.{ℕ, suc, ◌+◌, ◌≤◌, ◌<◌}
 use native.Mathlib.Omega.{arith}
 use Rattle.std.proofs.Math.Seq.{drop-length}
 use Rattle.whole.specs.Booleans.{not_both}
-use Rattle.packing.specs.declared.passes.Judged.{Judged}
-use Rattle.packing.specs.declared.passes.Judged.TheVariants as judge
+use Rattle.packing.specs.declared.BadWord.{BadWord}
 use Rattle.packing.specs.declared.reading.State.{State}
 use Rattle.packing.specs.declared.reading.Ended.{Ended}
 use Rattle.packing.specs.declared.reading.Ended.TheVariants.{Nothing, Word, Bad}
@@ -32,19 +31,19 @@ module _ (s : State) (rest : Scanned) (n : ℕ) where
   word_counted (Word z) h = go rest
     where
       go : (r : Scanned) → judged n (joined (Word z) s r) ≡ judged (n + 1) r
-      go (numbers zs) = let more : n + suc (length zs) ≡ n + 1 + length zs = omega arith in ap judge.Words more
+      go (numbers zs) = let more : n + suc (length zs) ≡ n + 1 + length zs = omega arith in ap Ok more
       go (bad line word) = refl
   word_counted Bad h = not_both refl h
 
-  pub count_turn : {whole : Scanned} {e f : Ended} {all : Judged} (m : ℕ) → whole ≡ joined f s rest → judged n whole ≡ all → e ≡ f → is_bad e ≡ false → m ≡ ended_words e → judged (n + m) rest ≡ all
+  pub count_turn : {whole : Scanned} {e f : Ended} {all : Result ℕ BadWord} (m : ℕ) → whole ≡ joined f s rest → judged n whole ≡ all → e ≡ f → is_bad e ≡ false → m ≡ ended_words e → judged (n + m) rest ≡ all
   count_turn {whole} {e} m w h is good more = ap (λ (k : ℕ). judged (n + k) rest) more ∙ sym (word_counted e good) ∙ ap (λ (x : Ended). judged n (joined x s rest)) is ∙ ap (judged n) (sym w) ∙ h
 
-  bad_found : (e : Ended) → is_bad e ≡ true → judged n (joined e s rest) ≡ judge.Bad s.line s.word
+  bad_found : (e : Ended) → is_bad e ≡ true → judged n (joined e s rest) ≡ Err (record { line = s.line; word = s.word })
   bad_found Nothing h = not_both h refl
   bad_found (Word z) h = not_both h refl
   bad_found Bad h = refl
 
-  pub bad_turn : {whole : Scanned} {e f : Ended} {all : Judged} → whole ≡ joined f s rest → judged n whole ≡ all → e ≡ f → is_bad e ≡ true → judge.Bad s.line s.word ≡ all
+  pub bad_turn : {whole : Scanned} {e f : Ended} {all : Result ℕ BadWord} → whole ≡ joined f s rest → judged n whole ≡ all → e ≡ f → is_bad e ≡ true → Err (record { line = s.line; word = s.word }) ≡ all
   bad_turn {whole} {e} w h is worse = sym (bad_found e worse) ∙ ap (λ (x : Ended). judged n (joined x s rest)) is ∙ ap (judged n) (sym w) ∙ h
 
 -- ---- a byte is at most one line more and one word more

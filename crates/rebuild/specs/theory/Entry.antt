@@ -11,7 +11,8 @@ use Rattle.inputs.specs.Inputs.{Inputs, inputs_judged, judged_in}
 use Rattle.content.specs.Content.{Content}
 use Rattle.almanac.specs.Layout.{file_of}
 use Rattle.built.specs.Build.{bytes_of_years, bytes_built, built_by}
-use Rattle.rebuilt.specs.Rebuild.{Years, NewFile, is_file, most_bytes, new_file_by, kept_by, kept, given_by, rebuilt, rebuilt_by, years_in}
+use Rattle.rebuilt.specs.declared.Years.{Years}
+use Rattle.rebuilt.specs.Rebuild.{NewFile, is_file, most_bytes, new_file_by, kept_by, kept, given_by, rebuilt, rebuilt_by, years_in}
 use Rattle.rebuild.specs.theory.Over.{fresh_bytes, rebuilt_over}
 
 -- ---- a build of 1 to 128 years, behind the judgement of its inputs

@@ -4,7 +4,7 @@ use Rattle.std.proofs.Math.Path.{◌≡◌}
 use Rattle.std.specs.Prelude.{refl, false, List, ◌++◌, ℕ, ◌+◌, ◌*◌, ◌≤◌, ℤ, length, take, drop}
 use Rattle.std.proofs.Common.{sym, ap, ◌∙◌, arith, length-append, take_at}
 use Rattle.whole.specs.Evaluated.{same_numbers}
-use Rattle.refusals.specs.Verdict.{Verdict, answered, refused, refusal, answers_apart, answer_or_refusal, then_answered, ◌then◌}
+use Rattle.refusals.specs.Verdict.{Verdict, answered, refused, answers_apart, answer_or_refusal, then_answered, ◌then◌}
 use Rattle.refusals.specs.Lent.{written_into}
 use Rattle.words.specs.Words.{signed4}
 use Rattle.content.specs.Content.{Content, sui_count, year_at}
@@ -16,9 +16,8 @@ use Rattle.almanac.specs.theory.Checked.{sui_count_lem}
 use Rattle.almanac.proofs.theory.Reader.{Checked}
 use Rattle.almanac.specs.theory.Records.{sui_stands}
 use Rattle.almanac.specs.theory.Rules.{rules, some_sui, few_suis}
-use Rattle.rebuild.specs.declared.old.FileYearsAnswer.{FileYearsAnswer}
-use Rattle.rebuild.specs.declared.old.FileYearsAnswer.TheVariants as file-years
-use Rattle.rebuilt.specs.Rebuild.{Years, years_in, is_file}
+use Rattle.rebuilt.specs.declared.Years.{Years}
+use Rattle.rebuilt.specs.Rebuild.{years_in, is_file}
 
 -- ---- a build into lent room
 module _ (v : Verdict (List ℕ)) where
@@ -52,10 +51,6 @@ module _ (v : Verdict (List ℕ)) where
   its_file w file = ap (λ (b : List ℕ). same_numbers b file) w.stand ∙ sym (ap (λ (u : Verdict (List ℕ)). is_file u file) w.are_bytes)
 
 -- ---- the years of a file
-abbrev pub paper_years : FileYearsAnswer → Verdict Years
-paper_years (file-years.Years y) = answered (record { first = y.first; count = y.count })
-paper_years (file-years.Refused r) = refusal r
-
 module _ (file : List ℕ) where
   pub no_years : {number segment : ℕ} → refused number segment ≡ checked_file file → ◌≡◌ {A = Verdict Years} (refused number segment) (file_of file then λ c. answered (years_in c))
   unfolding checked_file

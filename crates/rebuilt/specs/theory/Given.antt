@@ -19,7 +19,8 @@ use Rattle.almanac.proofs.theory.Reader.{checked}
 use Rattle.built.specs.Build.{content_built, bytes_built, built_by, bytes_by}
 use Rattle.built.specs.Theorems.{BuiltFile, built_is_read, one_sui_a_year, sui_of_each_year}
 use Rattle.built.specs.theory.Count.{count_natural, count_small}
-use Rattle.rebuilt.specs.Rebuild.{Years, years_in, is_file, given_by, most_bytes}
+use Rattle.rebuilt.specs.declared.Years.{Years}
+use Rattle.rebuilt.specs.Rebuild.{years_in, is_file, given_by, most_bytes}
 use Rattle.alike.specs.Alike.{bytes_are, bytes_alike}
 
 -- ---- a build that gave these bytes

@@ -1,28 +1,41 @@
--- `records::store` meets its contract. Assumes nothing.
-use Rattle.std.proofs.Common.{◌≡◌, length, ap, ◌∙◌, arith}
-use Rattle.records.proofs.Stored.{Turns, turns_of_lem, length_stored, stored_is}
-use Rattle.records.specs.Records.{count_in}
+-- `records::store` meets its contract: a refusal is passed on, or 12, or the records are copied. Assumes nothing.
+use Rattle.std.proofs.Common.{◌≡◌, ℕ, true, false, List, ◌++◌, length, take, drop, ap, ◌∙◌, lt-ltb, le-ltb}
+use lib.Dec.{ltb}
+use Rattle.refusals.specs.Verdict.{answered, passed_on}
+use Rattle.records.specs.Records.{records_of, records_into}
+use Rattle.records.proofs.Stored.{records_are}
 use Rattle.records.proofs.store.Goals as goal
-use Rattle.records.proofs.store.Goals.{At-loop-i}
 
--- the turns are those that the answer counts
-turns : (c : At-loop-i) → Turns c.args.found c.args.out.now c.planned-count.result
-turns c = rw (c.planned-count.ensures ∙ ap count_in c.plan-answer.ensures) (turns_of_lem c.args.found c.args.out.now)
+pub returns-in_err-sui-clause-result_value : goal.returns-in_err-sui-clause-result_value
+unfolding records_into
+returns-in_err-sui-clause-result_value c =
+    passed_on c.from_residual.result c.in_err-sui.field-0.0 c.from_residual.ensures.1 (rw c.in_err-sui.was)
 
-long : (c : At-loop-i) → length c.loop-i.out ≡ length c.args.out.now
-long c = ap length c.loop-i.invariant.kept ∙ length_stored c.args.out.now c.args.found.sui.months c.loop-i.i
+pub returns-in_err-sui-clause-out_after : goal.returns-in_err-sui-clause-out_after
+unfolding records_into
+returns-in_err-sui-clause-out_after c = rw c.in_err-sui.was
 
-pub record_at-record-requires : goal.record_at-record-requires
-record_at-record-requires c = omega (arith, (turns (goal.at.record_at-record-requires c).At-loop-i).has_records)
+pub returns-then-out-count-clause-result_value : goal.returns-then-out-count-clause-result_value
+unfolding records_into
+returns-then-out-count-clause-result_value c =
+    let short : ltb (length c.args.out.now) (length (records_of c.in_ok-sui.sui)) ≡ true = rw (← c.record_count-count.ensures) (lt-ltb _ _ c.if-out-count.true) in
+    rw (c.in_ok-sui.was, short)
 
-pub offset_bounds-out-i : goal.offset_bounds-out-i
-offset_bounds-out-i c = let t = turns (goal.at.offset_bounds-out-i c).At-loop-i in record { fits = omega (arith, t.has_room) }
+pub returns-then-out-count-clause-out_after : goal.returns-then-out-count-clause-out_after
+unfolding records_into
+returns-then-out-count-clause-out_after c =
+    let short : ltb (length c.args.out.now) (length (records_of c.in_ok-sui.sui)) ≡ true = rw (← c.record_count-count.ensures) (lt-ltb _ _ c.if-out-count.true) in
+    rw (c.in_ok-sui.was, short)
 
-pub bounds-out-i : goal.bounds-out-i
-bounds-out-i c = let here = (goal.at.bounds-out-i c).At-loop-i in omega (arith, (turns here).has_room, long here)
+pub returns-clause-result_value : goal.returns-clause-result_value
+unfolding records_into
+returns-clause-result_value c =
+    let fits : ltb (length c.args.out.now) (length (records_of c.in_ok-sui.sui)) ≡ false = rw (← c.record_count-count.ensures) (le-ltb _ _ c.if-out-count.false) in
+    rw (c.in_ok-sui.was, fits) (ap answered c.record_count-count.ensures)
 
 pub returns-clause-out_after : goal.returns-clause-out_after
+unfolding records_into
 returns-clause-out_after c =
-    let t = turns (goal.at.returns-clause-out_after c).At-loop-i in
-    let all : c.loop-i.i ≡ c.planned-count.result = omega arith in
-    c.loop-i.invariant.kept ∙ stored_is c.args.out.now c.args.found.sui.months c.loop-i.i (omega (arith, t.has_room)) (omega (arith, t.has_records)) ∙ rw all t.holds
+    let fits : ltb (length c.args.out.now) (length (records_of c.in_ok-sui.sui)) ≡ false = rw (← c.record_count-count.ensures) (le-ltb _ _ c.if-out-count.false) in
+    let copied = c.copy_from_slice.ensures.after ∙ ap (λ (n : ℕ). take n c.in_ok-sui.sui.months) c.record_count-count.ensures ∙ records_are c.in_ok-sui.sui in
+    rw (c.in_ok-sui.was, fits, copied) (ap (λ (n : ℕ). records_of c.in_ok-sui.sui ++ drop n c.args.out.now) c.record_count-count.ensures)

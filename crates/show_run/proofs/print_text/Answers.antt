@@ -14,7 +14,7 @@ inside file room {bytes} {last} = go (text_shown file (length room))
     go (refused number segment) p q = answer_or_refusal p
 
 pub slice_bounds-out-end : goal.slice_bounds-out-end
-slice_bounds-out-end g c = inside c.args.file.now c.text_room-out.result c.in-Shown.ensures.result_value c.in-Shown.ensures.out_after
+slice_bounds-out-end g c = inside c.args.file.now c.text_room-out.result c.in-Ok.ensures.result_value c.in-Ok.ensures.out_after
 
 pub slice_bounds-write_all-end : goal.slice_bounds-write_all-end
-slice_bounds-write_all-end g c = sym (length-take-le _ _ (inside c.args.file.now c.text_room-out.result c.in-Shown.ensures.result_value c.in-Shown.ensures.out_after))
+slice_bounds-write_all-end g c = sym (length-take-le _ _ (inside c.args.file.now c.text_room-out.result c.in-Ok.ensures.result_value c.in-Ok.ensures.out_after))

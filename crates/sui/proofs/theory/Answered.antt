@@ -27,9 +27,9 @@ use Rattle.sui.proofs.theory.Solstices.{new_moons_are}
 
 -- ---- the whole from its parts
 module _ (i : Inputs) (zone year : ℤ) (judged : judged_in i zone ≡ accepted) where
-  pub sui_refused : {q : Refusal} → sui_days i zone year ≡ refusal q → refusal q ≡ sui_for i zone year
+  pub sui_refused : (q : Refusal) → sui_days i zone year ≡ refusal q → refusal q ≡ sui_for i zone year
   unfolding sui_for
-  sui_refused e = rw (judged, e)
+  sui_refused q e = rw (judged, e)
 
   pub sui_found : {days : SuiDays} → sui_days i zone year ≡ answered days → sui_of year days ≡ sui_for i zone year
   unfolding sui_for

@@ -60,10 +60,8 @@ pub fn zhongqi_days(
     ensures { result ≡ zhongqi_from leap.now (series Sun start.0 coefs.now) zone index }
 {
     let mut days: [i64; 13] = [0; 13];
-    let mut i: usize = 0;
-    while i < 13 {
-        days[i] = zhongqi_between(leap, start, coefs, zone, index, first, last, i);
-        i += 1;
+    for (i, day) in days.iter_mut().enumerate() {
+        *day = zhongqi_between(leap, start, coefs, zone, index, first, last, i);
     }
     days
 }
@@ -73,9 +71,5 @@ pub fn put_thirteen(out: &mut [i64], at: usize, days: [i64; 13])
     requires { at + 13 ≤ length out.old }
     ensures { out.new ≡ placed at days out.old }
 {
-    let mut i: usize = 0;
-    while i < 13 {
-        out[at + i] = days[i];
-        i += 1;
-    }
+    out[at..at + 13].copy_from_slice(&days);
 }

@@ -1,10 +1,8 @@
--- `walk::write` meets its contract. The invariant: the words written so far, with those of the rest put behind them, are what is wanted (`Written`); the measure is the seconds that are left. In the
--- needs, `start` is the function's entry, `loop` the loop's head and `turn` a turn's beginning. Assumes nothing.
-use mathlib.Core.Path.{◌≡◌}
+-- `walk::write` meets its contract. The invariant: the words written so far, with those of the rest put behind them, are what is wanted (`Written`). In the needs,
+-- `turn` is a turn's beginning. Assumes nothing.
 use mathlib.Core.List.{◌++◌}
 use Prim.Native.Nat.{◌*◌}
 use lib.ListN.{length, drop}
-use Rattle.whole.specs.Distance.{distance_from}
 use Rattle.series.specs.Series.{series}
 use Rattle.marks.specs.Listed.{listed_marks}
 use Rattle.marks.specs.Words.{mark_words}
@@ -14,7 +12,4 @@ use Rattle.walk.proofs.write.Given as goal
 abbrev pub invariant-loop-before : goal.invariant-loop-before
 invariant-loop-before l =
     let s = series l.body l.start.0 l.coefs in
-    (length l.out ≡ length l.initial.out) × Written s (l.before) (l.reached) l.at l.out (mark_words (listed_marks s) ++ drop (2 * length (listed_marks s)) l.initial.out)
-
-abbrev pub decreases-loop-before : goal.decreases-loop-before
-decreases-loop-before l = distance_from (l.before) (l.end)
+    Written s l.before l.reached l.at l.out (mark_words (listed_marks s) ++ drop (2 * length (listed_marks s)) l.initial.out)

@@ -1,4 +1,4 @@
--- `alike::inner::same_words` meets its contract: first the runs that are the same, then the bits in which the first i words differ are gathered. Assumes nothing.
+-- `alike::inner::same_words` meets its contract: first the runs that are the same, then the bits in which the first k words differ are gathered. Assumes nothing.
 use mathlib.Core.Path.{◌≡◌, sym, ap, ◌∙◌}
 use mathlib.Core.List.{List}
 use Prim.Native.Nat.{ℕ, ◌<◌}
@@ -26,15 +26,15 @@ loop-i-preserved c =
     let t = c.loop-i.invariant in
     (t.0, (t.1.0, (omega arith, run_more c.args.a.now c.args.b.now c.loop-i.i t.1.1.1 (c.same_run.ensures c.if-same_run.true))))
 
-pub loop-i-2-preserved : goal.loop-i-2-preserved
-loop-i-2-preserved c =
-    let t = c.loop-i-2.invariant in
-    let fa : SFits w64 (get_or c.args.a.now c.loop-i-2.i (pos 0)) = search rules in
-    let fb : SFits w64 (get_or c.args.b.now c.loop-i-2.i (pos 0)) = search rules in
-    let g = one_more (of_z w64) (pos 0) c.args.a.now c.args.b.now (gathered c.args.a.now c.args.b.now c.loop-i-2.i c.loop-i-2.differing-bits t.1.1.1.0 t.1.1.1.1) (of_z_inj fa fb) in
+pub loop-k-preserved : goal.loop-k-preserved
+loop-k-preserved c =
+    let t = c.loop-k.invariant in
+    let fa : SFits w64 (get_or c.args.a.now c.loop-k.k (pos 0)) = search rules in
+    let fb : SFits w64 (get_or c.args.b.now c.loop-k.k (pos 0)) = search rules in
+    let g = one_more (of_z w64) (pos 0) c.args.a.now c.args.b.now (gathered c.args.a.now c.args.b.now c.loop-k.k c.loop-k.differing-bits t.1.1.1.0 t.1.1.1.1) (of_z_inj fa fb) in
     (t.0, (t.1.0, (omega arith, (λ e. g.tells (bits_of_zero _ e), λ e. ap (to_z w64) (g.told e)))))
 
 pub returns : goal.returns
 returns c =
-    let t = c.loop-i-2.invariant in
-    all_tell (of_z w64) (pos 0) c.args.a.now c.args.b.now (gathered c.args.a.now c.args.b.now c.loop-i-2.i c.loop-i-2.differing-bits t.1.1.1.0 t.1.1.1.1) (sym t.0 ∙ t.1.0) (omega (arith, c.loop-i-2-test.false, t.1.1.0)) words_alike words_unlike
+    let t = c.loop-k.invariant in
+    all_tell (of_z w64) (pos 0) c.args.a.now c.args.b.now (gathered c.args.a.now c.args.b.now c.loop-k.k c.loop-k.differing-bits t.1.1.1.0 t.1.1.1.1) (sym t.0 ∙ t.1.0) (omega (arith, c.loop-k-test.false, t.1.1.0)) words_alike words_unlike

@@ -1,4 +1,4 @@
--- `alike::inner::same_words` meets its contract: first the runs that are the same, then the bits in which the first i words differ are gathered. Assumes nothing.
+-- `alike::inner::same_words` meets its contract: first the runs that are the same, then the bits in which the first k words differ are gathered. Assumes nothing.
 use mathlib.Core.Path.{◌≡◌}
 use Prim.Native.Nat.{ℕ, ◌-◌, ◌≤◌, ◌<◌}
 use lib.IntN.{pos}
@@ -12,8 +12,5 @@ invariant-loop-i l = (l.n ≡ length l.a) × ((l.n ≡ length l.b) × ((l.i ≤ 
 abbrev pub decreases-loop-i : goal.decreases-loop-i
 decreases-loop-i l = l.n - l.i
 
-abbrev pub invariant-loop-i-2 : goal.invariant-loop-i-2
-invariant-loop-i-2 l = (l.n ≡ length l.a) × ((l.n ≡ length l.b) × ((l.i ≤ l.n) × ((l.differing ≡ pos 0 → (i : ℕ) → i < l.i → get_or l.a i (pos 0) ≡ get_or l.b i (pos 0)) × (l.a ≡ l.b → l.differing ≡ pos 0))))
-
-abbrev pub decreases-loop-i-2 : goal.decreases-loop-i-2
-decreases-loop-i-2 l = l.n - l.i
+abbrev pub invariant-loop-k : goal.invariant-loop-k
+invariant-loop-k l = (l.n ≡ length l.a) × ((l.n ≡ length l.b) × ((l.k ≤ l.n) × ((l.differing ≡ pos 0 → (i : ℕ) → i < l.k → get_or l.a i (pos 0) ≡ get_or l.b i (pos 0)) × (l.a ≡ l.b → l.differing ≡ pos 0))))

@@ -1,4 +1,5 @@
 -- `build::years::put_years` meets its contract. The loop's invariant is `AtYear`. Assumes nothing.
+use Rattle.std.specs.Prelude.{Ok, Err}
 use mathlib.Core.Path.{◌≡◌, refl, sym, ap, ◌∙◌}
 use mathlib.Core.List.{List}
 use Prim.Native.Nat.{ℕ, ◌+◌, ◌*◌, ◌≤◌, ◌<◌}
@@ -9,7 +10,7 @@ use mir.Syntax.{w64}
 use mir.Val.{of_z, to_z}
 use mir.Facts.{to_z-of_z}
 use Rattle.whole.specs.Ranges.{Within, fits<, bounds, back}
-use Rattle.refusals.specs.Verdict.{Verdict, answered, refusal, answer_or_refusal}
+use Rattle.refusals.specs.Verdict.{passed_on, Verdict, answered, refusal, answer_or_refusal, paper}
 use Rattle.inputs.specs.Inputs.{Inputs, inputs, sun}
 use Rattle.refusals.specs.declared.Refusal.{Refusal}
 use Rattle.months.proofs.theory.Kept as Kept
@@ -18,12 +19,11 @@ use Rattle.turns.specs.Listed.{turns_few}
 use Rattle.sui.specs.Sui.{sui_of_year}
 use Rattle.suis.specs.Ahead.{YearIn}
 use Rattle.suis.specs.theory.Next.{next_year}
-use Rattle.build.specs.declared.years.YearAnswer.TheVariants.{Year, Refused}
-use Rattle.build.specs.theory.Put.{paper_year, months_of, months_in}
+use Rattle.build.specs.theory.Put.{months_of, months_in}
 use Rattle.build.specs.theory.Answered.{year_refused, year_found}
 use Rattle.build.specs.theory.Walk.{AtYear, walk_starts, walk_goes_on, walk_ends, walk_stops, year_in, sui_room, month_room}
 use Rattle.build.proofs.years.put_years.Goals as goal
-use Rattle.build.proofs.years.put_years.Goals.{After-add-year, After-put_year-put, After-signed, At-loop-j, Start}
+use Rattle.build.proofs.years.put_years.Goals.{After-add-year, After-put_year, After-signed, At-loop-j, Start}
 
 abbrev Loop : Type 0
 Loop = At-loop-j
@@ -67,7 +67,7 @@ rooms c =
     )
 
 abbrev Put : Type 0
-Put = After-put_year-put
+Put = After-put_year
 
 abbrev loop_of : Put → Loop
 loop_of c = c.before.before.before.before.before.before
@@ -79,16 +79,16 @@ taken_of c = c.loop-j-test.true
 abbrev sui_of : Loop → Verdict Sui
 sui_of c = sui_of_year (inputs_of c.before) c.args.zone (c.args.first +ℤ pos c.loop-j.j)
 
-says : (c : Put) → (paper_year c.put_year-put.result ≡ months_of (sui_of (loop_of c)))
-says c = (rw (to_z-of_z {w = w64} (loop_of c).before.ranges.zone, at_added c.before.before.before) at c.put_year-put.ensures).result_value
+says : (c : Put) → (paper c.put_year.result ≡ months_of (sui_of (loop_of c)))
+says c = (rw (to_z-of_z {w = w64} (loop_of c).before.ranges.zone, at_added c.before.before.before) at c.put_year.ensures).result_value
 
 -- refused, by why
-refused_by : (c : Put) {r : Refusal} → c.put_year-put.result ≡ Refused r → sui_of (loop_of c) ≡ refusal r
-refused_by c {r} e = year_refused (sui_of (loop_of c)) (sym (ap paper_year e) ∙ says c)
+refused_by : (c : Put) {r : Refusal} → c.put_year.result ≡ Err r → sui_of (loop_of c) ≡ refusal r
+refused_by c {r} e = year_refused (sui_of (loop_of c)) (sym (ap paper e) ∙ says c)
 
 -- found, with so many months
-found_with : (c : Put) {count : ℕ} → c.put_year-put.result ≡ Year count → (sui : Sui) × (sui_of (loop_of c) ≡ answered sui) × (sui.count ≡ count)
-found_with c e = year_found (sui_of (loop_of c)) (sym (ap paper_year e) ∙ says c)
+found_with : (c : Put) {count : ℕ} → c.put_year.result ≡ Ok count → (sui : Sui) × (sui_of (loop_of c) ≡ answered sui) × (sui.count ≡ count)
+found_with c e = year_found (sui_of (loop_of c)) (sym (ap paper e) ∙ says c)
 
 pub loop-j-init : goal.loop-j-init
 loop-j-init c =
@@ -109,62 +109,51 @@ overflow_add-place c =
     let a = c.args in
     record { fits = omega (arith, few c.before.before.before, t.is_place, t.walks.solstices_ahead.inside, turns_few (sun (inputs_of c.before.before.before.before)) t.walks.begun.is_known.sun_ready.is_accepted) }
 
-pub put_year-put-requires : goal.put_year-put-requires
-put_year-put-requires c =
+pub put_year-requires : goal.put_year-requires
+put_year-requires c =
     let taken = c.loop-j-test.true in
     rw (to_z-of_z c.ranges.zone, at_added c.before.before)
     (record { year_in = year_of c.before.before.before.before.before taken; j_bound = omega (arith, few c.before.before.before.before.before, taken); from_bound = omega (arith, few c.before.before.before.before.before, taken); j_in_bounds = omega (arith, few c.before.before.before.before.before, taken, rooms c.before.before.before.before.before, c.requires.n_in_bounds); from_in_bounds = omega (arith, few c.before.before.before.before.before, taken, rooms c.before.before.before.before.before, c.requires.n_in_bounds_2) })
 
-pub shape_of-suis-in-Refused : goal.shape_of-suis-in-Refused
-shape_of-suis-in-Refused c =
-    let loop = loop_of c.before.before.before in
-    ap length (rw (to_z-of_z loop.ranges.zone, at_added c.before.before.before.before.before.before, refused_by c.before.before.before c.in-Refused.is) at c.put_year-put.ensures.suis_after) ∙ (rooms loop).0
-
-pub shape_of-months-in-Refused : goal.shape_of-months-in-Refused
-shape_of-months-in-Refused c =
-    let loop = loop_of c.before.before.before in
-    ap length (rw (to_z-of_z loop.ranges.zone, at_added c.before.before.before.before.before.before, refused_by c.before.before.before c.in-Refused.is) at c.put_year-put.ensures.months_after) ∙ (rooms loop).1
-
-pub returns-in-Refused : goal.returns-in-Refused
-returns-in-Refused c =
-    let loop = loop_of c.before.before.before in
+pub returns-in_err-count : goal.returns-in_err-count
+returns-in_err-count c =
+    let put = (goal.at.returns-in_err-count c).After-put_year in
+    let loop = loop_of put in
     let a = loop.args in
     let t = at_turn loop in
-    let stops = walk_stops (inputs_of loop.before) a.zone a.suns a.moons t.places a.first a.n t.walks.begun a.suis.now a.months.now t.walked (refused_by c.before.before.before c.in-Refused.is) (taken_of c.before.before.before) in record { result_value = sym (ap months_in stops); suis_after = λ found e. answer_or_refusal (sym e ∙ stops); months_after = λ found e. answer_or_refusal (sym e ∙ stops) }
+    let stops = walk_stops (inputs_of loop.before) a.zone a.suns a.moons t.places a.first a.n t.walks.begun a.suis.now a.months.now t.walked (refused_by put c.in_err-count.was) (taken_of put) in
+    record {
+      result_value = passed_on c.from_residual.result c.in_err-count.field-0.0 c.from_residual.ensures.1 (sym (ap months_in stops));
+      suis_after = λ found e. answer_or_refusal (sym e ∙ stops);
+      months_after = λ found e. answer_or_refusal (sym e ∙ stops);
+    }
 
 pub overflow_add-from : goal.overflow_add-from
 overflow_add-from c =
-    let loop = loop_of c.before.before.before in
-    let found = found_with c.before.before.before c.in-Year.is in
+    let put = (goal.at.overflow_add-from c).After-put_year in
+    let loop = loop_of put in
+    let found = found_with put c.in_ok-count.was in
     let next = next_year (inputs_of loop.before) loop.args.zone (at_turn loop).walks.begun.is_known (loop.args.first +ℤ pos loop.loop-j.j) found.1 in
     record { fits = omega (arith, few loop, found.2, next.thirteen_at_most) }
 
-pub overflow_add-j : goal.overflow_add-j
-overflow_add-j c = let loop = loop_of c.before.before.before in record { fits = omega (arith, few loop) }
-
-pub loop-j-smaller : goal.loop-j-smaller
-loop-j-smaller c = omega (arith, taken_of c.before.before.before)
-
 pub loop-j-preserved : goal.loop-j-preserved
 loop-j-preserved c =
-    let loop = loop_of c.before.before.before in
+    let put = (goal.at.loop-j-preserved c).After-put_year in
+    let loop = loop_of put in
     let start = loop.before in
     let a = start.args in
     let t = at_turn loop in
-    let turn = taken_of c.before.before.before in
-    let found = found_with c.before.before.before c.in-Year.is in
-    let told = rw (to_z-of_z start.ranges.zone, at_added c.before.before.before.before.before.before, found.1) at c.put_year-put.ensures in
+    let turn = taken_of put in
+    let found = found_with put c.in_ok-count.was in
+    let told = rw (to_z-of_z start.ranges.zone, at_added put.before.before.before, found.1) at c.put_year.ensures in
     let goes_on = walk_goes_on (inputs_of start) a.zone a.suns a.moons t.places a.first a.n t.walks.begun a.suis.now a.months.now t.walked found.1 (omega (arith, turn, start.requires.n_in_bounds)) (omega (arith, turn, few loop, start.requires.n_in_bounds_2)) told.suis_after told.months_after in
     rw (to_z-of_z start.ranges.zone, to_z-of_z start.ranges.first) (record { places = t.places; walks = t.walks; is_place = t.is_place; walked = rw found.2 at goes_on; in_turn = omega (arith, turn) })
 
-pub shape_of-suis : goal.shape_of-suis
-shape_of-suis c = (rooms c.before).0
-
-pub shape_of-months : goal.shape_of-months
-shape_of-months c = (rooms c.before).1
-
 pub returns : goal.returns
 returns c =
+    let loop = (goal.at.returns c).At-loop-j in
     let a = c.args in
-    let t = at_turn c.before in
-    let all : c.loop-j.j ≡ a.n = omega (arith, c.loop-j-test.false, t.in_turn) in record { result_value = (walk_ends (inputs_of c.before.before) a.zone a.suns a.moons t.places a.first a.n t.walks.begun a.suis.now a.months.now t.walked all).0; suis_after = (walk_ends (inputs_of c.before.before) a.zone a.suns a.moons t.places a.first a.n t.walks.begun a.suis.now a.months.now t.walked all).1.0; months_after = (walk_ends (inputs_of c.before.before) a.zone a.suns a.moons t.places a.first a.n t.walks.begun a.suis.now a.months.now t.walked all).1.1 }
+    let t = at_turn loop in
+    let all : c.loop-j.j ≡ a.n = omega (arith, c.loop-j-test.false, t.in_turn) in
+    let ends = walk_ends (inputs_of loop.before) a.zone a.suns a.moons t.places a.first a.n t.walks.begun a.suis.now a.months.now t.walked all in
+    record { result_value = ends.0; suis_after = ends.1.0; months_after = ends.1.1 }

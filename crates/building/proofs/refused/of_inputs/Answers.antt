@@ -1,32 +1,29 @@
 -- `building::refused::of_inputs` meets its contract. Assumes nothing.
-use mathlib.Core.Path.{◌∙◌}
+use mathlib.Core.Path.{sym, ◌∙◌}
 use Rattle.building.specs.Refused.{refused_of}
 use Rattle.building.specs.theory.Blamed.{ends, goes_on, blames, clears}
-use borrow.Author.Rules.{rules}
 use Rattle.building.proofs.refused.of_inputs.Goals as goal
 
-pub enum_told-1 : goal.enum_told-1
-enum_told-1 c = search rules
-
-pub returns-in-Refused : goal.returns-in-Refused
+pub returns-then-is_err : goal.returns-then-is_err
 unfolding refused_of
-returns-in-Refused c = ends _ c.judge_leap_table-table.ensures c.in-Refused.is
+returns-then-is_err c = ends c.judge_leap_table.result _ c.judge_leap_table.ensures (sym c.is_err.ensures.value ∙ c.if-is_err.true)
 
-pub returns-in-Refused-sun_check : goal.returns-in-Refused-sun_check
+pub returns-then-is_err-2 : goal.returns-then-is_err-2
 unfolding refused_of
-returns-in-Refused-sun_check c =
-    blames _ _ c.accept-sun_check.ensures c.in-Refused-sun_check.is ∙ goes_on _ c.judge_leap_table-table.ensures c.in_default.is
+returns-then-is_err-2 c =
+    blames c.accept.result _ _ c.accept.ensures (sym c.is_err-2.ensures.value ∙ c.if-is_err-2.true)
+    ∙ goes_on c.judge_leap_table.result _ c.judge_leap_table.ensures (sym c.is_err.ensures.value ∙ c.if-is_err.false)
 
-pub returns-in-Refused-moon_check : goal.returns-in-Refused-moon_check
+pub returns-then-is_err-3 : goal.returns-then-is_err-3
 unfolding refused_of
-returns-in-Refused-moon_check c =
-    blames _ _ c.accept-moon_check.ensures c.in-Refused-moon_check.is
-    ∙ clears _ _ c.accept-sun_check.ensures c.in_default-sun_check.is
-    ∙ goes_on _ c.judge_leap_table-table.ensures c.in_default.is
+returns-then-is_err-3 c =
+    blames c.accept-2.result _ _ c.accept-2.ensures (sym c.is_err-3.ensures.value ∙ c.if-is_err-3.true)
+    ∙ clears c.accept.result _ _ c.accept.ensures (sym c.is_err-2.ensures.value ∙ c.if-is_err-2.false)
+    ∙ goes_on c.judge_leap_table.result _ c.judge_leap_table.ensures (sym c.is_err.ensures.value ∙ c.if-is_err.false)
 
 pub returns : goal.returns
 unfolding refused_of
 returns c =
-    clears _ _ c.accept-moon_check.ensures c.in_default-moon_check.is
-    ∙ clears _ _ c.accept-sun_check.ensures c.in_default-sun_check.is
-    ∙ goes_on _ c.judge_leap_table-table.ensures c.in_default.is
+    clears c.accept-2.result _ _ c.accept-2.ensures (sym c.is_err-3.ensures.value ∙ c.if-is_err-3.false)
+    ∙ clears c.accept.result _ _ c.accept.ensures (sym c.is_err-2.ensures.value ∙ c.if-is_err-2.false)
+    ∙ goes_on c.judge_leap_table.result _ c.judge_leap_table.ensures (sym c.is_err.ensures.value ∙ c.if-is_err.false)

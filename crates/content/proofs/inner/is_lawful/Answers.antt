@@ -4,7 +4,7 @@ use mathlib.Core.Bool.{true}
 use lib.ListN.{length}
 use Rattle.clock.specs.Leap.{leap_lawful}
 use Rattle.content.specs.Content.{whole_suis}
-use Rattle.content.proofs.theory.Walk.{leap_broken, suis_broken, suis_decide}
+use Rattle.content.proofs.theory.Walk.{month_cut, whole_some, leap_broken, suis_broken, suis_decide}
 use Rattle.content.proofs.inner.is_lawful.Goals as goal
 use Rattle.content.proofs.inner.is_lawful.Goals.{After-whole_suis, Else-not-whole_suis}
 
@@ -24,10 +24,16 @@ returns-then-not-whole_suis c =
     let a = c.args in
     suis_broken a.leap.now a.suis.now a.months.now (table (goal.at.returns-then-not-whole_suis c).After-whole_suis) (sym c.whole_suis.ensures ∙ c.if-not-whole_suis.true)
 
-pub suis_listed-requires : goal.suis_listed-requires
-suis_listed-requires c = whole (goal.at.suis_listed-requires c).Else-not-whole_suis
+pub returns-then-months-gt0 : goal.returns-then-months-gt0
+returns-then-months-gt0 c =
+    let a = c.args in
+    let suis = whole (goal.at.returns-then-months-gt0 c).Else-not-whole_suis in
+    month_cut a.suis.now a.months.now c.if-months-gt0.true ∙ suis_decide a.leap.now a.suis.now a.months.now (table (goal.at.returns-then-months-gt0 c).After-whole_suis) suis
+
+pub suis_lawful-requires-clause-some : goal.suis_lawful-requires-clause-some
+suis_lawful-requires-clause-some c = (whole_some (length c.args.suis.now) (whole (goal.at.suis_lawful-requires-clause-some c).Else-not-whole_suis)).0
 
 pub returns : goal.returns
 returns c =
     let a = c.args in
-    c.suis_listed.ensures ∙ suis_decide a.leap.now a.suis.now a.months.now (table (goal.at.returns c).After-whole_suis) (whole (goal.at.returns c).Else-not-whole_suis)
+    c.suis_lawful.ensures ∙ suis_decide a.leap.now a.suis.now a.months.now (table (goal.at.returns c).After-whole_suis) (whole (goal.at.returns c).Else-not-whole_suis)

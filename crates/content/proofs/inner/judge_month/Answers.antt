@@ -43,7 +43,7 @@ is_leap c =
 pub returns-then-not-good_days : goal.returns-then-not-good_days
 returns-then-not-good_days c =
     let a = c.args in
-    c.stopped.ensures ∙ days_stop a.year a.months a.leaps a.place a.due a.handle a.first a.size (sym (good_days_say (goal.at.returns-then-not-good_days c).After-good_days) ∙ c.if-not-good_days.true)
+    days_stop a.year a.months a.leaps a.place a.due a.handle a.first a.size (sym (good_days_say (goal.at.returns-then-not-good_days c).After-good_days) ∙ c.if-not-good_days.true)
 
 pub add-behind-requires : goal.add-behind-requires
 add-behind-requires c =
@@ -73,8 +73,7 @@ returns-then-in_range c =
 pub returns-then-not-leap_handle : goal.returns-then-not-leap_handle
 returns-then-not-leap_handle c =
     let a = c.args in
-    c.stopped-then-not-leap_handle.ensures
-    ∙ handle_stops a.year a.months a.leaps a.place a.due a.handle a.first a.size (days_passed (goal.at.returns-then-not-leap_handle c).Else-not-good_days) c.requires.place_bound c.requires.leaps_le_place (sym (is_ordinary (goal.at.returns-then-not-leap_handle c).After-in_range) ∙ c.if-in_range.false)
+    handle_stops a.year a.months a.leaps a.place a.due a.handle a.first a.size (days_passed (goal.at.returns-then-not-leap_handle c).Else-not-good_days) c.requires.place_bound c.requires.leaps_le_place (sym (is_ordinary (goal.at.returns-then-not-leap_handle c).After-in_range) ∙ c.if-in_range.false)
     (sym (is_leap (goal.at.returns-then-not-leap_handle c).After-leap_handle) ∙ c.if-not-leap_handle.true)
 
 pub returns : goal.returns

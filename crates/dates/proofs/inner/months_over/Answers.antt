@@ -9,24 +9,16 @@ use Rattle.dates.specs.Calendar.{months_over}
 use Rattle.dates.proofs.theory.Months.{over_stops, over_goes_on, over_ends}
 use Rattle.dates.proofs.inner.months_over.Goals as goal
 
-pub loop-over-init : goal.loop-over-init
-loop-over-init c = (omega arith, omega arith)
-
 pub returns-then-left-month : goal.returns-then-left-month
-returns-then-left-month c =
-    let loop = c.before.before.before in
-    omega (arith, over_stops loop.before.args.lengths.now loop.loop-over.over loop.loop-over.left (omega arith) (omega arith))
+returns-then-left-month c = omega (arith, over_stops c.args.lengths.now c.loop-over.over c.loop-over.left (omega arith) (omega arith))
 
 pub loop-over-preserved : goal.loop-over-preserved
 loop-over-preserved c =
-    let loop = c.before.before.before in
-    let ls = loop.before.args.lengths.now in
-    let over = loop.loop-over.over in
-    let left = loop.loop-over.left in
+    let ls = c.args.lengths.now in
+    let over = c.loop-over.over in
+    let left = c.loop-over.left in
     let e : months_over (drop (over + 1) ls) (left - get_or ls over 0) ≡ months_over (drop (suc over) ls) (left - get_or ls over 0) = ap (λ (k : ℕ). months_over (drop k ls) (left - get_or ls over 0)) (add-one over) in
-    (omega arith, omega (arith, over_goes_on ls over left (omega arith) (omega arith)))
+    omega (arith, over_goes_on ls over left (omega arith) (omega arith))
 
 pub returns : goal.returns
-returns c =
-    let loop = c.before in
-    omega (arith, over_ends loop.before.args.lengths.now loop.loop-over.over loop.loop-over.left (omega arith))
+returns c = omega (arith, over_ends c.args.lengths.now c.loop-over.over c.loop-over.left (omega arith))

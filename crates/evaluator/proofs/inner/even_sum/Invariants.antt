@@ -1,6 +1,6 @@
 -- `evaluator::inner::even_sum` meets its contract. Assumes nothing.
 use mathlib.Core.List.{List}
-use Prim.Native.Nat.{ℕ, ◌*◌, ◌-◌}
+use Prim.Native.Nat.{ℕ, ◌*◌}
 use lib.IntN.{ℤ}
 use Rattle.chebyshev.specs.Segment.{coefficient}
 use Rattle.evaluator.proofs.Running.{Running}
@@ -11,6 +11,3 @@ term coefs i = coefficient coefs (2 * i)
 
 abbrev pub invariant-loop-i : goal.invariant-loop-i
 invariant-loop-i l = Running 7 (coefficient l.coefs 0) (term l.coefs) (l.sum) l.i
-
-abbrev pub decreases-loop-i : goal.decreases-loop-i
-decreases-loop-i l = 7 - l.i

@@ -7,6 +7,3 @@ use Rattle.evaluator.proofs.inner.out_of_range.Given as goal
 
 abbrev pub invariant-loop-n : goal.invariant-loop-n
 invariant-loop-n l = (out_of_range l.coefs ≡ larger l.coefs l.n (14 - l.n))
-
-abbrev pub decreases-loop-n : goal.decreases-loop-n
-decreases-loop-n l = 14 - l.n

@@ -5,8 +5,8 @@ use Rattle.inputs.specs.Inputs.{inputs}
 use Rattle.exports.specs.theory.File.{rebuild_fits}
 use Rattle.exports.proofs.file.hzk_rebuild.Goals as goal
 
-pub rebuilt_record-requires : goal.rebuilt_record-requires
-rebuilt_record-requires c =
+pub record-requires : goal.record-requires
+record-requires c =
     let a = c.args in
     let old = inputs a.oldleap.now a.oldsunstart a.oldsun.now a.oldmoonstart a.oldmoon.now in
     let new = inputs a.leap.now a.sunstart a.sun.now a.moonstart a.moon.now in

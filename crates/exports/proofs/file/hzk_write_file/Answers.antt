@@ -4,5 +4,5 @@ use Rattle.content.specs.Content.{content}
 use Rattle.exports.specs.theory.File.{write_fits}
 use Rattle.exports.proofs.file.hzk_write_file.Goals as goal
 
-pub written_record-requires : goal.written_record-requires
-written_record-requires c = let a = c.args in rw c.write_file-written.ensures.result_value (write_fits (content a.leap.now a.suis.now a.months.now) (length a.file.now) (omega arith))
+pub record-requires : goal.record-requires
+record-requires c = let a = c.args in rw c.write_file-written.ensures.result_value (write_fits (content a.leap.now a.suis.now a.months.now) (length a.file.now) (omega arith))

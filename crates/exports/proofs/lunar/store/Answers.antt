@@ -1,21 +1,23 @@
 -- `exports::lunar::store` meets its contract. Assumes nothing.
+use Rattle.refusals.specs.Verdict.{passed_on}
 use Rattle.exports.specs.theory.Suis.{store_refused, store_short, store_all}
 use Rattle.exports.proofs.lunar.store.Goals as goal
 
-pub returns-in-Refused-clause-value : goal.returns-in-Refused-clause-value
-returns-in-Refused-clause-value c = (store_refused c.args.found c.args.out.now _ c.in-Refused.is c.refused.ensures).0
+pub returns-in_err-sui-clause-value : goal.returns-in_err-sui-clause-value
+returns-in_err-sui-clause-value c =
+    passed_on c.from_residual.result c.in_err-sui.field-0.0 c.from_residual.ensures.1 (store_refused c.args.found c.args.out.now c.in_err-sui.field-0.0 c.in_err-sui.was).0
 
-pub returns-in-Refused-clause-out_after : goal.returns-in-Refused-clause-out_after
-returns-in-Refused-clause-out_after c = (store_refused c.args.found c.args.out.now _ c.in-Refused.is c.refused.ensures).1
+pub returns-in_err-sui-clause-out_after : goal.returns-in_err-sui-clause-out_after
+returns-in_err-sui-clause-out_after c = (store_refused c.args.found c.args.out.now c.in_err-sui.field-0.0 c.in_err-sui.was).1
 
-pub returns-then-out-count-clause-value : goal.returns-then-out-count-clause-value
-returns-then-out-count-clause-value c = (store_short c.args.found c.args.out.now c.in_default.is c.requires c.if-out-count.true c.refused-then-out-count.ensures).0
+pub returns-then-out-sui-clause-value : goal.returns-then-out-sui-clause-value
+returns-then-out-sui-clause-value c = (store_short c.args.found c.args.out.now c.in_ok-sui.sui c.in_ok-sui.was c.requires c.if-out-sui.true).0
 
-pub returns-then-out-count-clause-out_after : goal.returns-then-out-count-clause-out_after
-returns-then-out-count-clause-out_after c = (store_short c.args.found c.args.out.now c.in_default.is c.requires c.if-out-count.true c.refused-then-out-count.ensures).1
+pub returns-then-out-sui-clause-out_after : goal.returns-then-out-sui-clause-out_after
+returns-then-out-sui-clause-out_after c = (store_short c.args.found c.args.out.now c.in_ok-sui.sui c.in_ok-sui.was c.requires c.if-out-sui.true).1
 
 pub returns-clause-value : goal.returns-clause-value
-returns-clause-value c = (store_all c.args.found c.args.out.now c.in_default.is c.requires c.if-out-count.false c.counted.ensures c.put_months.ensures).0
+returns-clause-value c = (store_all c.args.found c.args.out.now c.in_ok-sui.sui c.in_ok-sui.was c.requires c.if-out-sui.false c.put_months.ensures).0
 
 pub returns-clause-out_after : goal.returns-clause-out_after
-returns-clause-out_after c = (store_all c.args.found c.args.out.now c.in_default.is c.requires c.if-out-count.false c.counted.ensures c.put_months.ensures).1
+returns-clause-out_after c = (store_all c.args.found c.args.out.now c.in_ok-sui.sui c.in_ok-sui.was c.requires c.if-out-sui.false c.put_months.ensures).1

@@ -6,5 +6,5 @@ use Rattle.answers.specs.Record.{body_of}
 use Rattle.exports.specs.theory.Sky.{series_fits}
 use Rattle.exports.proofs.sky.hzk_accept.Goals as goal
 
-pub check_record-requires : goal.check_record-requires
-check_record-requires c = let a = c.args in rw (rw (c.body_of.ensures, to_z-of_z c.ranges.start) at c.accept.ensures) (series_fits (series (body_of a.moon) a.start a.coefs.now) (omega arith))
+pub record-requires : goal.record-requires
+record-requires c = let a = c.args in rw (rw (c.body_of.ensures, to_z-of_z c.ranges.start) at c.accept.ensures) (series_fits (series (body_of a.moon) a.start a.coefs.now) (omega arith))

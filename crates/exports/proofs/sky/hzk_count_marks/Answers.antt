@@ -6,5 +6,5 @@ use Rattle.answers.specs.Record.{body_of}
 use Rattle.exports.specs.theory.Sky.{count_fits}
 use Rattle.exports.proofs.sky.hzk_count_marks.Goals as goal
 
-pub count_record-requires : goal.count_record-requires
-count_record-requires c = let a = c.args in rw (rw (c.body_of.ensures, to_z-of_z c.ranges.start) at c.count_marks.ensures) (count_fits (series (body_of a.moon) a.start a.coefs.now) (omega arith))
+pub record-requires : goal.record-requires
+record-requires c = let a = c.args in rw (rw (c.body_of.ensures, to_z-of_z c.ranges.start) at c.count_marks.ensures) (count_fits (series (body_of a.moon) a.start a.coefs.now) (omega arith))

@@ -5,5 +5,5 @@ use mir.Facts.{to_z-of_z}
 use Rattle.exports.specs.theory.Sky.{inputs_fit}
 use Rattle.exports.proofs.sky.hzk_judge_inputs.Goals as goal
 
-pub check_record-requires : goal.check_record-requires
-check_record-requires c = let a = c.args in rw (rw (to_z-of_z c.ranges.sunstart, to_z-of_z c.ranges.moonstart) at c.judge-judged.ensures) (inputs_fit (inputs a.leap.now a.sunstart a.sun.now a.moonstart a.moon.now) (omega arith) (omega arith))
+pub record-requires : goal.record-requires
+record-requires c = let a = c.args in rw (rw (to_z-of_z c.ranges.sunstart, to_z-of_z c.ranges.moonstart) at c.judge-judged.ensures) (inputs_fit (inputs a.leap.now a.sunstart a.sun.now a.moonstart a.moon.now) (omega arith) (omega arith))

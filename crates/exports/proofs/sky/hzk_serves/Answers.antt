@@ -6,5 +6,5 @@ use Rattle.answers.specs.Record.{body_of}
 use Rattle.exports.specs.theory.Sky.{serves_fits}
 use Rattle.exports.proofs.sky.hzk_serves.Goals as goal
 
-pub served_record-requires : goal.served_record-requires
-served_record-requires c = let a = c.args in rw (rw (c.body_of.ensures, to_z-of_z c.ranges.nearstart, to_z-of_z c.ranges.longstart, to_z-of_z c.ranges.second) at c.serves-served.ensures) (serves_fits (series (body_of a.moon) a.nearstart a.near.now) (series (body_of a.moon) a.longstart a.long.now) a.second (omega arith) (omega arith))
+pub record-requires : goal.record-requires
+record-requires c = let a = c.args in rw (rw (c.body_of.ensures, to_z-of_z c.ranges.nearstart, to_z-of_z c.ranges.longstart, to_z-of_z c.ranges.second) at c.serves-served.ensures) (serves_fits (series (body_of a.moon) a.nearstart a.near.now) (series (body_of a.moon) a.longstart a.long.now) a.second (omega arith) (omega arith))

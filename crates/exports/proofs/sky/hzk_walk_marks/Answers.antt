@@ -6,5 +6,5 @@ use Rattle.answers.specs.Record.{body_of}
 use Rattle.exports.specs.theory.Sky.{list_fits}
 use Rattle.exports.proofs.sky.hzk_walk_marks.Goals as goal
 
-pub list_record-requires : goal.list_record-requires
-list_record-requires c = let a = c.args in rw (rw (c.body_of.ensures, to_z-of_z c.ranges.start) at c.list_marks-listed.ensures.result_value) (list_fits (series (body_of a.moon) a.start a.coefs.now) (omega arith) (length a.marks.now))
+pub record-requires : goal.record-requires
+record-requires c = let a = c.args in rw (rw (c.body_of.ensures, to_z-of_z c.ranges.start) at c.list_marks-listed.ensures.result_value) (list_fits (series (body_of a.moon) a.start a.coefs.now) (omega arith) (length a.marks.now))

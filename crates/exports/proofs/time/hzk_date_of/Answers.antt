@@ -3,5 +3,5 @@ use mir.Facts.{to_z-of_z}
 use Rattle.exports.specs.theory.Time.{date_fits}
 use Rattle.exports.proofs.time.hzk_date_of.Goals as goal
 
-pub date_record-requires : goal.date_record-requires
-date_record-requires c = let a = c.args in rw (rw (to_z-of_z c.ranges.day) at c.date_of.ensures) (date_fits (record { 0 = a.day }))
+pub record-requires : goal.record-requires
+record-requires c = let a = c.args in rw (rw (to_z-of_z c.ranges.day) at c.date_of.ensures) (date_fits (record { 0 = a.day }))

@@ -2,5 +2,5 @@
 use Rattle.exports.specs.theory.Time.{leap_fits}
 use Rattle.exports.proofs.time.hzk_judge_leap_table.Goals as goal
 
-pub check_record-requires : goal.check_record-requires
-check_record-requires c = let a = c.args in rw c.judge_leap_table.ensures (leap_fits a.leap.now)
+pub record-requires : goal.record-requires
+record-requires c = let a = c.args in rw c.judge_leap_table.ensures (leap_fits a.leap.now)

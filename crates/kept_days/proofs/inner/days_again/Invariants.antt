@@ -1,9 +1,9 @@
 -- `kept_days::inner::days_again` meets its contract. The loop's invariant: the first i days stand in front. Assumes nothing.
 use mathlib.Core.Path.{◌≡◌}
 use mathlib.Core.List.{List, ◌++◌}
-use Prim.Native.Nat.{ℕ, ◌+◌, ◌-◌, ◌≤◌}
+use Prim.Native.Nat.{ℕ, ◌+◌}
 use lib.IntN.{ℤ}
-use lib.ListN.{length, drop}
+use lib.ListN.{drop}
 use Rattle.whole.specs.Tabulated.{tabulate}
 use Rattle.series.specs.Series.{Series, series}
 use Rattle.turns.specs.Listed.{turn_day}
@@ -14,7 +14,4 @@ abbrev pub day_at : List ℤ → Series → ℤ → ℕ → ℕ → ℤ
 day_at leap s zone from k = turn_day leap s zone (from + k)
 
 abbrev pub invariant-loop-i : goal.invariant-loop-i
-invariant-loop-i l = (l.i ≤ l.n) × ((length l.out ≡ length l.initial.out) × (l.out ≡ tabulate (day_at l.leap (series l.body l.start.0 l.coefs) (l.zone) l.from) l.i ++ drop l.i l.initial.out))
-
-abbrev pub decreases-loop-i : goal.decreases-loop-i
-decreases-loop-i l = l.n - l.i
+invariant-loop-i l = l.day-items ≡ tabulate (day_at l.leap (series l.body l.start.0 l.coefs) (l.zone) l.from) l.i ++ drop l.i l.initial.day-items

@@ -8,14 +8,13 @@ use lib.ListN.{length}
 use mir.Syntax.{w64}
 use mir.Val.{of_z, to_z}
 use mir.Facts.{to_z-of_z}
-use Rattle.whole.specs.Lists.{placed, placed_length}
+use Rattle.whole.specs.Lists.{placed}
 use Rattle.series.specs.declared.Body.TheVariants.{Sun}
 use Rattle.series.specs.Series.{Series, series}
 use Rattle.turns.specs.Listed.{turn_index_of}
-use Rattle.turns.specs.Searched.{count_is, count_small}
 use Rattle.sui.specs.theory.Found.{zhongqi_from}
 use Rattle.suis.specs.Ahead.{zhongqi_of}
-use Rattle.suis.specs.theory.Zhongqi.{nothing_put, length_zhongqi, sui_put, both_turns}
+use Rattle.suis.specs.theory.Zhongqi.{nothing_put, sui_put, both_turns}
 use Rattle.kept_days.proofs.inner.zhongqi_again.Goals as goal
 use Rattle.kept_days.proofs.inner.zhongqi_again.Goals.{After-thirteen_again-days, At-loop-j, Start}
 
@@ -26,13 +25,7 @@ abbrev sun_of : Start → Series
 sun_of start = series Sun start.args.start.0 start.args.coefs.now
 
 at_head : (c : Loop) → c.loop-j.out ≡ placed 0 (zhongqi_of c.args.leap.now (sun_of c.before) c.args.zone c.args.place c.loop-j.j) c.args.out.now
-at_head c = rw (to_z-of_z c.ranges.zone) at c.loop-j.invariant.1
-
-at_long : (c : Loop) → length c.loop-j.out ≡ length c.args.out.now
-at_long c =
-    let a = c.args in
-    let before = zhongqi_of a.leap.now (sun_of c.before) a.zone a.place c.loop-j.j in
-    ap length (at_head c) ∙ placed_length a.out.now before 0 (omega (arith, length_zhongqi a.leap.now (sun_of c.before) a.zone a.place c.loop-j.j, c.loop-j.invariant.0, c.requires.m_in_bounds_3))
+at_head c = rw (to_z-of_z c.ranges.zone) at c.loop-j.invariant
 
 -- both solstices of sui j stand among the lent days
 both : (c : Loop) → c.loop-j.j < c.args.m → c.loop-j.j + 1 < length c.args.solstices.now
@@ -43,7 +36,7 @@ at_zhongqi : (c : After-thirteen_again-days) → (let a = c.args in c.thirteen_a
 at_zhongqi c = rw (to_z-of_z c.ranges.zone) at c.thirteen_again-days.ensures
 
 pub loop-j-init : goal.loop-j-init
-loop-j-init c = (omega arith, nothing_put c.args.leap.now (sun_of c) (to_z w64 (of_z w64 c.args.zone)) c.args.place c.args.out.now)
+loop-j-init c = nothing_put c.args.leap.now (sun_of c) (to_z w64 (of_z w64 c.args.zone)) c.args.place c.args.out.now
 
 pub thirteen_again-days-requires : goal.thirteen_again-days-requires
 thirteen_again-days-requires c =
@@ -53,26 +46,13 @@ thirteen_again-days-requires c =
     rw (to_z-of_z c.ranges.zone, to_z-of_z c.ranges.low, to_z-of_z c.ranges.high)
     (record { searched = c.requires.searched; ahead = ahead; j_in_bounds = two; thirteen_kept = c.requires.zhongqi_kept.of_sui j c.loop-j-test.true (both_turns ahead j two); j_in_bounds_2 = omega (arith, c.loop-j-test.true, c.requires.m_in_bounds_2) })
 
-pub overflow_mul-j : goal.overflow_mul-j
-overflow_mul-j c =
-    record { fits = omega (arith, both_turns c.requires.ahead c.loop-j.j (both c.before.before.before c.loop-j-test.true), count_is c.requires.searched, count_small c.requires.searched) }
-
-pub put_thirteen-requires : goal.put_thirteen-requires
-put_thirteen-requires c = omega (arith, c.loop-j-test.true, at_long c.before.before.before, c.requires.m_in_bounds_3)
-
-pub loop-j-smaller : goal.loop-j-smaller
-loop-j-smaller c = omega (arith, c.loop-j-test.true)
-
 pub loop-j-preserved : goal.loop-j-preserved
 loop-j-preserved c =
     let taken = c.loop-j-test.true in
     let a = c.args in
-    (omega (arith, taken), rw (to_z-of_z c.ranges.zone) (c.put_thirteen.ensures ∙ ap (λ (l : List ℤ). placed (13 * c.loop-j.j) l c.loop-j.out) (at_zhongqi c.before.before.before) ∙ sui_put a.leap.now (sun_of c.before.before.before.before.before.before) a.zone a.place a.out.now c.loop-j.j (omega (arith, taken, c.requires.m_in_bounds_3)) (at_head c.before.before.before.before.before)))
-
-pub shape_of-out : goal.shape_of-out
-shape_of-out c = at_long c.before
+    rw (to_z-of_z c.ranges.zone) (c.put_thirteen.ensures ∙ ap (λ (l : List ℤ). placed (13 * c.loop-j.j) l c.loop-j.out) (at_zhongqi c.before.before.before) ∙ sui_put a.leap.now (sun_of c.before.before.before.before.before.before) a.zone a.place a.out.now c.loop-j.j (omega (arith, taken, c.requires.m_in_bounds_3)) (at_head c.before.before.before.before.before))
 
 pub returns : goal.returns
 returns c =
-    let all : c.loop-j.j ≡ c.args.m = omega (arith, c.loop-j-test.false, c.loop-j.invariant.0) in
+    let all : c.loop-j.j ≡ c.args.m = omega (arith, c.loop-j-test.false) in
     rw all at (at_head c.before)

@@ -1,38 +1,33 @@
--- `kept_years::lines::is_among` meets its contract, and ends: the years that are left are fewer at each turn. Assumes nothing.
-use mathlib.Core.Path.{◌≡◌, refl, sym, ◌∙◌}
-use mathlib.Core.Bool.{true, false}
-use lib.IntN.{pos}
-use borrow.Author.Rules.{rules}
-use native.Mathlib.Omega.{arith}
-use lib.ListN.{get_or}
-use mir.Syntax.{w64}
-use mir.Val.{SFits}
+-- `kept_years::lines::is_among` meets its contract: what the library says of `contains` is the definition. Assumes nothing.
+use Rattle.std.proofs.Common.{◌≡◌, refl, ◌∙◌, Bool, true, false, ℤ, List, [], ◌∷◌, ◌||◌, ap, ap₂}
+use Rattle.std.specs.Ordering.{int_eq}
+use Rattle.std.specs.List.{list_any}
+use Rattle.std.proofs.lemmas.Bool.Decides.{Decides-int_eq}
+use Rattle.std.specs.Bool.{Decides}
 use mir.Facts.{to_z-of_z}
-use Rattle.whole.specs.Tests.{is_exactly}
-use Rattle.kept_years.specs.theory.Among.{among_here, among_turn, among_end}
+use mir.Syntax.{w64}
+use mir.Val.{to_z, of_z}
+use Rattle.whole.specs.Booleans.{not_both}
+use Rattle.whole.specs.Tests.{is_exactly, exactly_says, says_exactly}
+use Rattle.kept_years.specs.KeptYears.{is_among}
 use Rattle.kept_years.proofs.lines.is_among.Goals as goal
 
-pub loop-i-init : goal.loop-i-init
-loop-i-init c = (omega arith, refl)
+-- `==` is the test for exactly a number
+exactly : (year y : ℤ) → int_eq y year ≡ is_exactly year y
+exactly year y = go (int_eq y year) (is_exactly year y) (Decides-int_eq y year) refl
+  where
+    go : (a b : Bool) → Decides a (y ≡ year) → is_exactly year y ≡ b → a ≡ b
+    go true true same e = refl
+    go true false same e = not_both (says_exactly year y (same.0 refl)) e
+    go false true other e = other.1 (exactly_says year y e)
+    go false false other e = refl
 
-pub returns-then-in_range : goal.returns-then-in_range
-returns-then-in_range c =
-    let a = c.args in
-    let fy : SFits w64 a.year = search rules in
-    let fz : SFits w64 (get_or a.years.now c.loop-i.i (pos 0)) = search rules in
-    let is : is_exactly a.year (get_or a.years.now c.loop-i.i (pos 0)) ≡ true = sym (rw (to_z-of_z fy, to_z-of_z fz) at c.in_range.ensures) ∙ c.if-in_range.true in
-    sym (among_here a.year a.years.now c.loop-i.i c.loop-i-test.true is) ∙ (rw (to_z-of_z fy) at c.loop-i.invariant.1)
-
-pub loop-i-preserved : goal.loop-i-preserved
-loop-i-preserved c =
-    let a = c.args in
-    let fy : SFits w64 a.year = search rules in
-    let fz : SFits w64 (get_or a.years.now c.loop-i.i (pos 0)) = search rules in
-    let is : is_exactly a.year (get_or a.years.now c.loop-i.i (pos 0)) ≡ false = sym (rw (to_z-of_z fy, to_z-of_z fz) at c.in_range.ensures) ∙ c.if-in_range.false in
-    (omega (arith, c.loop-i-test.true), rw (to_z-of_z fy) (sym (among_turn a.year a.years.now c.loop-i.i c.loop-i-test.true is) ∙ (rw (to_z-of_z fy) at c.loop-i.invariant.1)))
+any_is : (year : ℤ) (years : List ℤ) → list_any (λ y. int_eq y year) years ≡ is_among year years
+unfolding is_among
+any_is year [] = refl
+any_is year (y ∷ years) = ap₂ ◌||◌ (exactly year y) (any_is year years)
 
 pub returns : goal.returns
 returns c =
     let a = c.args in
-    let fy : SFits w64 a.year = search rules in
-    sym (among_end a.year a.years.now c.loop-i.i c.loop-i-test.false) ∙ (rw (to_z-of_z fy) at c.loop-i.invariant.1)
+    c.contains.ensures.value ∙ any_is (to_z w64 (of_z w64 a.year)) a.years.now ∙ ap (λ (z : ℤ). is_among z a.years.now) (to_z-of_z c.ranges.year)

@@ -11,16 +11,16 @@ use Rattle.listing.proofs.parts.put_input.Goals.{Start}
 abbrev inputs-of : Start → Inputs
 inputs-of c = inputs c.args.leap.now c.args.sunstart.0 c.args.sun.now c.args.moonstart.0 c.args.moon.now
 
-pub returns-in-Refused : goal.returns-in-Refused
+pub returns-in-Err : goal.returns-in-Err
 unfolding listed
-returns-in-Refused c =
-    rw (ap printed (sym (refused_first (answered (lines_of (inputs-of (goal.at.returns-in-Refused c).Start) c.args.zone)) c.judge-check.ensures c.in-Refused.is))) c.put_refusal.ensures
+returns-in-Err c =
+    rw (ap printed (sym (refused_first (answered (lines_of (inputs-of (goal.at.returns-in-Err c).Start) c.args.zone)) c.judge.ensures c.in-Err.is))) c.put_refusal.ensures
 
 pub put_lines-requires : goal.put_lines-requires
 put_lines-requires c =
-    rw (to_z-of_z c.ranges.zone) (record { known = known (inputs-of (goal.at.put_lines-requires c).Start) (accepted_is c.judge-check.ensures c.in_default.is); within = c.requires })
+    rw (to_z-of_z c.ranges.zone) (record { known = known (inputs-of (goal.at.put_lines-requires c).Start) (accepted_is c.judge.ensures c.in-Ok.is); within = c.requires })
 
-pub returns : goal.returns
+pub returns-in-Ok : goal.returns-in-Ok
 unfolding listed
-returns c =
-    rw (ap printed (sym (accepted_first (answered (lines_of (inputs-of (goal.at.returns c).Start) c.args.zone)) c.judge-check.ensures c.in_default.is))) (rw (to_z-of_z c.ranges.zone) at c.put_lines.ensures)
+returns-in-Ok c =
+    rw (ap printed (sym (accepted_first (answered (lines_of (inputs-of (goal.at.returns-in-Ok c).Start) c.args.zone)) c.judge.ensures c.in-Ok.is))) (rw (to_z-of_z c.ranges.zone) at c.put_lines.ensures)

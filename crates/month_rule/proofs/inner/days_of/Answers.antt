@@ -10,7 +10,6 @@ use mir.Syntax.{w64}
 use mir.Val.{SFits}
 use mir.Facts.{to_z-of_z}
 use Rattle.months.specs.Months.{by_first, by_second, moon_missing, month_count, twelve_or_thirteen, days_found}
-use Rattle.months.specs.Answers.{days_answer}
 use Rattle.months.proofs.theory.Listed.{at_most_thirteen}
 use Rattle.months.proofs.theory.Days.{days_missing, days_other_count, days_are_found, some_listed}
 use Rattle.month_rule.proofs.inner.days_of.Goals as goal
@@ -58,13 +57,13 @@ at_sizes c =
 pub returns-then-moon_missing : goal.returns-then-moon_missing
 returns-then-moon_missing c =
     let missing = sym (at_missing (goal.at.returns-then-moon_missing c).After-moon_missing) ∙ c.if-moon_missing.true in
-    c.no_days.ensures ∙ ap days_answer (days_missing c.args.moons.now c.args.zhongqi.now missing)
+    days_missing c.args.moons.now c.args.zhongqi.now missing
 
 pub returns-then-not-twelve_or_thirteen : goal.returns-then-not-twelve_or_thirteen
 returns-then-not-twelve_or_thirteen c =
     let judged = at_judged (goal.at.returns-then-not-twelve_or_thirteen c).After-twelve_or_thirteen in
     let not_twelve = sym judged.1 ∙ c.if-not-twelve_or_thirteen.true in
-    c.no_days-then-not-twelve_or_thirteen.ensures ∙ ap days_answer (days_other_count c.args.moons.now c.args.zhongqi.now judged.0 not_twelve)
+    days_other_count c.args.moons.now c.args.zhongqi.now judged.0 not_twelve
 
 pub overflow_sub-by_first : goal.overflow_sub-by_first
 overflow_sub-by_first c = omega (arith, at_sizes (goal.at.overflow_sub-by_first c).Else-not-twelve_or_thirteen)
@@ -82,4 +81,4 @@ returns c =
     let twelve = sym judged.1 ∙ c.if-not-twelve_or_thirteen.false in
     let n = at_counted (goal.at.returns c).After-not_after-by_second in
     rw (c.fourteen.ensures, c.thirteen.ensures, n.0, at_months (goal.at.returns c).After-month_count-n)
-    (ap days_answer (days_are_found c.args.moons.now c.args.zhongqi.now judged.0 twelve))
+    (days_are_found c.args.moons.now c.args.zhongqi.now judged.0 twelve)

@@ -1,12 +1,11 @@
 -- `month_rule::inner::sui_of` meets its contract. In the needs, `start` is the function's entry. Assumes nothing.
-use mathlib.Core.Path.{◌≡◌, ap, ◌∙◌}
+use mathlib.Core.Path.{◌≡◌}
 use mathlib.Core.Bool.{true, false}
 use borrow.Author.Tests.{lt-ltb, le-ltb}
 use lib.Dec.{ltb}
 use mir.Facts.{to_z-of_z}
 use Prim.Native.Nat.{◌≤◌}
 use Rattle.months.specs.Months.{first_bad_month}
-use Rattle.months.specs.Answers.{sui_answer}
 use Rattle.months.proofs.theory.Listed.{at_most_thirteen}
 use Rattle.months.proofs.theory.Leap.{sui_bad_length, sui_numbered}
 use Rattle.month_rule.proofs.inner.sui_of.Goals as goal
@@ -26,7 +25,7 @@ pub returns-then-first_bad_month-months : goal.returns-then-first_bad_month-mont
 returns-then-first_bad_month-months c =
     let days = c.args.days in
     let bad : ltb (first_bad_month days) days.months ≡ true = rw (← c.first_bad_month.ensures) (lt-ltb c.first_bad_month.result days.months c.if-first_bad_month-months.true) in
-    c.no_sui.ensures ∙ ap sui_answer (sui_bad_length days c.args.year bad)
+    sui_bad_length days c.args.year bad
 
 pub leap_month-requires : goal.leap_month-requires
 leap_month-requires c = c.requires.sui_days
@@ -37,4 +36,4 @@ numbered-requires c =
 
 pub returns : goal.returns
 returns c =
-    rw (rw (to_z-of_z c.ranges.year) at c.numbered.ensures) (ap sui_answer (sui_numbered c.args.days c.args.year (at_good (goal.at.returns c).Else-first_bad_month-months)))
+    rw (rw (to_z-of_z c.ranges.year) at c.numbered.ensures) (sui_numbered c.args.days c.args.year (at_good (goal.at.returns c).Else-first_bad_month-months))

@@ -1,37 +1,20 @@
--- `month_rule::limits::in_range` meets its contract. The loop's invariant: the days are in range if those from i on are. Assumes nothing.
-use mathlib.Core.Path.{◌≡◌, refl, sym, ◌∙◌}
-use mathlib.Core.Bool.{◌&&◌}
-use Prim.Native.Nat.{◌+◌}
-use native.Mathlib.Omega.{arith}
+-- `month_rule::limits::in_range` meets its contract. Assumes nothing.
+use mathlib.Core.Path.{◌≡◌, refl, ◌∙◌}
+use mathlib.Core.Bool.{Bool, ◌&&◌}
+use mathlib.Core.List.{List}
+use lib.IntN.{ℤ}
 use borrow.Author.Rules.{rules}
-use lib.IntN.{pos}
-use lib.ListN.{get_or, drop}
-use mir.Syntax.{w64}
-use mir.Val.{SFits}
-use mir.Facts.{to_z-of_z}
-use Rattle.months.specs.Limits.{in_range}
-use Rattle.months.proofs.theory.Kept.{in_range_turn, in_range_end}
+use Rattle.std.specs.List.{list_all}
+use Rattle.std.proofs.lemmas.List.Recursion.{same_from_clauses}
+use Rattle.std.proofs.lemmas.Iterator.{YieldsList-from_slice}
+use Rattle.std.proofs.lemmas.Iterator.Search.{all_from_yields_List}
+use Rattle.months.specs.Limits.{day_in_range, in_range}
 use Rattle.month_rule.proofs.limits.in_range.Goals as goal
-use Rattle.month_rule.proofs.limits.in_range.Goals.{After-day_in_range}
 
--- one turn judges the day at i
-at_turn : (c : After-day_in_range) → (let days = c.args.days.now in in_range days ≡ (c.day_in_range.result && in_range (drop (c.loop-i.i + 1) days)))
-at_turn c =
-    let days = c.args.days.now in
-    let i = c.loop-i.i in
-    let f : SFits w64 (get_or days i (pos 0)) = search rules in
-    rw (rw (to_z-of_z f) at c.day_in_range.ensures) (c.loop-i.invariant.1 ∙ in_range_turn days i (omega arith))
-
-pub loop-i-init : goal.loop-i-init
-loop-i-init c = (omega arith, refl)
-
-pub returns-then-not-day_in_range : goal.returns-then-not-day_in_range
-returns-then-not-day_in_range c = sym (rw (c.if-not-day_in_range.true) at (at_turn (goal.at.returns-then-not-day_in_range c).After-day_in_range))
-
-pub loop-i-preserved : goal.loop-i-preserved
-loop-i-preserved c = (omega arith, rw (c.if-not-day_in_range.false) at (at_turn (goal.at.loop-i-preserved c).After-day_in_range))
+-- each day is judged, up to the first that is not in range
+judged : (days : List ℤ) → list_all day_in_range days ≡ in_range days
+unfolding in_range
+judged days = same_from_clauses (list_all day_in_range) in_range (λ (d : ℤ) (rest : Bool). day_in_range d && rest) refl (λ d rest. refl) (λ d rest. refl) days
 
 pub returns : goal.returns
-returns c =
-    let days = c.args.days.now in
-    sym (c.loop-i.invariant.1 ∙ in_range_end days c.loop-i.i (omega arith))
+returns c = all_from_yields_List day_in_range _ _ c.all.result c.all.ensures.ran (YieldsList-from_slice c.args.days.now cc) (λ x b q k. search rules) ∙ judged c.args.days.now

@@ -1,4 +1,5 @@
 -- `one_sui::finding::days_from` meets its contract. In the needs, `start` is the function's entry. Assumes nothing.
+use Rattle.refusals.specs.Verdict.{answered}
 use mathlib.Core.Path.{◌≡◌, sym, ap, ap₂, ◌∙◌}
 use mathlib.Core.Bool.{true, false}
 use mathlib.Core.List.{List, ◌++◌}
@@ -11,11 +12,9 @@ use mir.Syntax.{w64}
 use mir.Val.{SFits}
 use mir.Facts.{to_z-of_z}
 use Rattle.whole.specs.Tabulated.{tabulate, length_tabulate}
-use Rattle.refusals.specs.declared.Check.TheVariants.{Accepted}
 use Rattle.series.specs.declared.Body.TheVariants.{Moon}
 use Rattle.series.specs.Series.{Series, series}
 use Rattle.months.specs.Months.{by_first, by_second, moon_missing, month_count, twelve_or_thirteen, days_found}
-use Rattle.months.specs.Answers.{days_answer}
 use Rattle.months.proofs.theory.Days.{days_missing, days_other_count, days_are_found, some_listed}
 use Rattle.months.proofs.theory.Listed.{at_most_thirteen}
 use Rattle.turns.specs.declared.inner.TurnList.{TurnList}
@@ -105,14 +104,14 @@ turns_by-by_second-requires c = rw (to_z-of_z c.ranges.zone) (at_turns c.before.
 
 pub returns-then-moon_missing : goal.returns-then-moon_missing
 returns-then-moon_missing c =
-    let missing = sym (at_missing c.before.before) ∙ c.if-moon_missing.true in
-    c.no_days.ensures ∙ ap days_answer (days_missing (moons_of c.before.before.before.before.before.before.before.before) (zhongqi_of c.before.before.before.before.before.before.before.before) missing)
+    let missing = sym (at_missing (goal.at.returns-then-moon_missing c).After-moon_missing) ∙ c.if-moon_missing.true in
+    (days_missing (moons_of (goal.at.returns-then-moon_missing c).Start) (zhongqi_of (goal.at.returns-then-moon_missing c).Start) missing)
 
 pub returns-then-not-twelve_or_thirteen : goal.returns-then-not-twelve_or_thirteen
 returns-then-not-twelve_or_thirteen c =
-    let judged = at_judged c.before.before in
+    let judged = at_judged (goal.at.returns-then-not-twelve_or_thirteen c).After-twelve_or_thirteen in
     let not_twelve = sym judged.1 ∙ c.if-not-twelve_or_thirteen.true in
-    c.no_days-then-not-twelve_or_thirteen.ensures ∙ ap days_answer (days_other_count (moons_of c.before.before.before.before.before.before.before.before.before.before.before) (zhongqi_of c.before.before.before.before.before.before.before.before.before.before.before) judged.0 not_twelve)
+    (days_other_count (moons_of (goal.at.returns-then-not-twelve_or_thirteen c).Start) (zhongqi_of (goal.at.returns-then-not-twelve_or_thirteen c).Start) judged.0 not_twelve)
 
 pub overflow_sub-by_first : goal.overflow_sub-by_first
 overflow_sub-by_first c = omega (arith, at_by c, at_sizes c)
@@ -137,5 +136,5 @@ returns c =
     let part = tabulate_part (turn_day start.args.leap.now (series_of start) start.args.zone) (turns_of (series_of start)) (by_first moons zhongqi - 1) n
     (rw (length_tabulate (turn_day start.args.leap.now (series_of start) start.args.zone) (turns_of (series_of start))) at (at_sizes c.before).2) in
     let days = made ∙ ap₂ (day_part start) by.0 by.1 ∙ ap (λ (l : List ℤ). l ++ replicate (14 - n) (pos 0)) (sym part) in
-    (λ t. record { check = Accepted; days = record { months = by.1 t; moons = days t; zhongqi = zhongqi } })
-    ∙ ap days_answer (days_are_found moons zhongqi (at_judged c.before.before).0 (at_twelve c.before))
+    ap answered (λ t. record { months = by.1 t; moons = days t; zhongqi = zhongqi })
+    ∙ (days_are_found moons zhongqi (at_judged c.before.before).0 (at_twelve c.before))

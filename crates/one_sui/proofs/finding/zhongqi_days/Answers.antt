@@ -12,42 +12,29 @@ use Rattle.series.specs.declared.Body.TheVariants.{Sun}
 use Rattle.series.specs.Series.{series}
 use Rattle.one_sui.proofs.finding.zhongqi_days.Goals as goal
 use Rattle.one_sui.proofs.finding.zhongqi_days.Invariants.{day_at}
-use Rattle.one_sui.proofs.finding.zhongqi_days.Goals.{After-zhongqi_day, At-loop-i, Start}
+use Rattle.one_sui.proofs.finding.zhongqi_days.Goals.{Start}
 
 abbrev days_of : Start → ℕ → ℤ
 days_of start = day_at start.args.leap.now (series Sun start.args.start.0 start.args.coefs.now) start.args.zone start.args.index
 
-at_head : (c : At-loop-i) → c.loop-i.days ≡ tabulate (days_of c.before) c.loop-i.i ++ drop c.loop-i.i (replicate 13 (pos 0))
-at_head c = rw (to_z-of_z c.ranges.zone, to_z-of_z c.ranges.index) at c.loop-i.invariant.1
-
-at_day : (c : After-zhongqi_day) → c.zhongqi_day.result ≡ days_of c.before.before.before c.loop-i.i
-at_day c = rw (to_z-of_z c.ranges.zone, to_z-of_z c.ranges.index) at c.zhongqi_day.ensures
-
 pub loop-i-init : goal.loop-i-init
-loop-i-init c = (omega arith, refl)
+loop-i-init c = refl
 
 pub zhongqi_day-requires : goal.zhongqi_day-requires
 zhongqi_day-requires c =
     rw (to_z-of_z c.ranges.zone, to_z-of_z c.ranges.index) (record { ready = c.requires.ready; within = c.requires.within; coefs_bound = c.requires.coefs_bound; pos_bound = c.requires.pos_bound; i_bound = omega arith })
 
-pub offset_bounds-days-i : goal.offset_bounds-days-i
-offset_bounds-days-i c = omega arith
-
-pub bounds-days-i : goal.bounds-days-i
-bounds-days-i c = omega arith
-
-pub overflow_add-i : goal.overflow_add-i
-overflow_add-i c = omega arith
-
-pub loop-i-smaller : goal.loop-i-smaller
-loop-i-smaller c = omega arith
-
 pub loop-i-preserved : goal.loop-i-preserved
 loop-i-preserved c =
-    let fills = tabulate_turn (days_of c.before.before.before) (replicate 13 (pos 0)) c.loop-i.i (omega arith) in
-    (omega arith, rw (to_z-of_z c.ranges.zone, to_z-of_z c.ranges.index, back c.zhongqi_day.result c.zhongqi_day.type_inv, at_day c, at_head c.before.before) fills)
+    let days = days_of (goal.at.loop-i-preserved c).Start in
+    let zeros = replicate 13 (pos 0) in
+    let day : c.zhongqi_day.result ≡ days c.loop-i.i = rw (to_z-of_z c.ranges.zone, to_z-of_z c.ranges.index) at c.zhongqi_day.ensures in
+    let head : c.loop-i.day-items ≡ tabulate days c.loop-i.i ++ drop c.loop-i.i zeros = rw (to_z-of_z c.ranges.zone, to_z-of_z c.ranges.index) at c.loop-i.invariant in
+    rw (to_z-of_z c.ranges.zone, to_z-of_z c.ranges.index, back c.zhongqi_day.result c.zhongqi_day.type_inv, day, head) (tabulate_turn days zeros c.loop-i.i (omega arith))
 
 pub returns : goal.returns
 returns c =
+    let days = days_of (goal.at.returns c).Start in
+    let head : c.loop-i.day-items ≡ tabulate days c.loop-i.i ++ drop c.loop-i.i (replicate 13 (pos 0)) = rw (to_z-of_z c.ranges.zone, to_z-of_z c.ranges.index) at c.loop-i.invariant in
     let all : c.loop-i.i ≡ 13 = omega arith in
-    at_head c.before ∙ rw all (append-nil (tabulate (days_of c.before.before) 13))
+    head ∙ rw all (append-nil (tabulate days 13))

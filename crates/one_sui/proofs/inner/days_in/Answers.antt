@@ -13,9 +13,8 @@ use Rattle.series.specs.Series.{Series}
 use Rattle.inputs.specs.Inputs.{Inputs, inputs, sun, moon}
 use Rattle.months.specs.Limits.{year_in_range}
 use Rattle.months.specs.Months.{days_of}
-use Rattle.months.specs.Answers.{days_answer}
 use Rattle.months.proofs.theory.Kept.{year_small}
-use Rattle.refusals.specs.Verdict.{answered_then, refused_then}
+use Rattle.refusals.specs.Verdict.{paper, answered_then, refused_then}
 use Rattle.turns.specs.declared.inner.TurnList.{TurnList}
 use Rattle.turns.specs.Listed.{turn_index_of, turn_after, turn_days, turns_by}
 use Rattle.sui.specs.theory.Solstices.{eve}
@@ -84,8 +83,8 @@ at_index c =
 
 pub returns-then-not-in_range : goal.returns-then-not-in_range
 returns-then-not-in_range c =
-    let out = sym (at_range c.before.before) ∙ c.if-not-in_range.true in
-    c.no_days.ensures ∙ ap days_answer (out_of_range (inputs_of c.before.before.before) c.args.zone c.requires.known c.args.year out)
+    let out = sym (at_range (goal.at.returns-then-not-in_range c).After-in_range) ∙ c.if-not-in_range.true in
+    (out_of_range (inputs_of (goal.at.returns-then-not-in_range c).Start) c.args.zone c.requires.known c.args.year out)
 
 pub turns_of-turns-requires : goal.turns_of-turns-requires
 turns_of-turns-requires c = c.requires.known.sun_ready.is_accepted
@@ -110,11 +109,9 @@ one_in_each-requires c =
 pub returns-then-not-one_in_each : goal.returns-then-not-one_in_each
 returns-then-not-one_in_each c =
     let a = c.args in
-    let none = sym (at_one c.before.before) ∙ c.if-not-one_in_each.true in
-    c.no_days-then-not-one_in_each.ensures
-    ∙ ap days_answer
-    (refused_then (λ (j : ℤ). days_of (turn_days a.leap.now (moon (inputs_of c.before.before.before.before.before.before.before.before.before)) a.zone) (zhongqi_from a.leap.now (sun_of c.before.before.before.before.before.before.before.before.before) a.zone j)) (missing_when a.leap.now (sun_of c.before.before.before.before.before.before.before.before.before) a.zone a.year none)
-    ∙ sym (sui_days_are (inputs_of c.before.before.before.before.before.before.before.before.before) a.zone c.requires.known a.year (at_year c.before.before.before.before.before.before.before)))
+    let none = sym (at_one (goal.at.returns-then-not-one_in_each c).After-one_in_each) ∙ c.if-not-one_in_each.true in
+    (refused_then (λ (j : ℤ). days_of (turn_days a.leap.now (moon (inputs_of (goal.at.returns-then-not-one_in_each c).Start)) a.zone) (zhongqi_from a.leap.now (sun_of (goal.at.returns-then-not-one_in_each c).Start) a.zone j)) (missing_when a.leap.now (sun_of (goal.at.returns-then-not-one_in_each c).Start) a.zone a.year none)
+    ∙ sym (sui_days_are (inputs_of (goal.at.returns-then-not-one_in_each c).Start) a.zone c.requires.known a.year (at_year (goal.at.returns-then-not-one_in_each c).Else-not-in_range)))
 
 pub turn_index-index-requires : goal.turn_index-index-requires
 turn_index-index-requires c =
@@ -139,9 +136,8 @@ returns c =
     let start = start_of c.before.before.before.before in
     let a = start.args in
     let zhongqi : c.zhongqi_days-zhongqi.result ≡ zhongqi_from a.leap.now (sun_of start) a.zone (turn_index_of (sun_of start) (before_of start)) = rw (at_index c.before.before, to_z-of_z start.ranges.zone) at c.zhongqi_days-zhongqi.ensures in
-    let days : c.days_from.result ≡ days_answer (days_of (turn_days a.leap.now (moon (inputs_of start)) a.zone) c.zhongqi_days-zhongqi.result) = rw (to_z-of_z start.ranges.zone) at c.days_from.ensures in
+    let days : paper c.days_from.result ≡ days_of (turn_days a.leap.now (moon (inputs_of start)) a.zone) c.zhongqi_days-zhongqi.result = rw (to_z-of_z start.ranges.zone) at c.days_from.ensures in
     days
-    ∙ ap (λ (l : List ℤ). days_answer (days_of (turn_days a.leap.now (moon (inputs_of start)) a.zone) l)) zhongqi
-    ∙ ap days_answer
-    (answered_then (λ (j : ℤ). days_of (turn_days a.leap.now (moon (inputs_of start)) a.zone) (zhongqi_from a.leap.now (sun_of start) a.zone j)) (found_when a.leap.now (sun_of start) a.zone a.year (found_one c.before.before.before.before))
+    ∙ ap (λ (l : List ℤ). (days_of (turn_days a.leap.now (moon (inputs_of start)) a.zone) l)) zhongqi
+    ∙ (answered_then (λ (j : ℤ). days_of (turn_days a.leap.now (moon (inputs_of start)) a.zone) (zhongqi_from a.leap.now (sun_of start) a.zone j)) (found_when a.leap.now (sun_of start) a.zone a.year (found_one c.before.before.before.before))
     ∙ sym (sui_days_are (inputs_of start) a.zone start.requires.known a.year (at_year (year_at_lem c.before.before.before.before))))

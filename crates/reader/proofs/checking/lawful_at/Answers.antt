@@ -1,9 +1,10 @@
 -- `reader::checking::lawful_at` meets its contract. Assumes nothing.
 use mathlib.Core.Path.{◌≡◌, sym, ap, ◌∙◌}
+use native.Mathlib.Omega.{arith}
 use lib.ListN.{length}
 use Rattle.clock.specs.Leap.{leap_lawful}
 use Rattle.almanac.specs.Layout.{content_at}
-use Rattle.almanac.specs.theory.Checked.{entries_of, leap_read, too_many_entries, too_many_suis, no_suis, table_broken, suis_decide_file}
+use Rattle.almanac.specs.theory.Checked.{entries_of, sui_count_lem, months_of_lem, leap_read, too_many_entries, too_many_suis, no_suis, table_broken, suis_decide_file}
 use Rattle.reader.proofs.checking.lawful_at.Goals as goal
 use Rattle.reader.proofs.checking.lawful_at.Goals.{After-leap_lawful}
 
@@ -30,7 +31,13 @@ returns-then-not-leap_lawful c =
     let a = c.args in
     table_broken a.file.now a.n (sym (judged (goal.at.returns-then-not-leap_lawful c).After-leap_lawful) ∙ c.if-not-leap_lawful.true)
 
+pub suis_lawful-requires-clause-some : goal.suis_lawful-requires-clause-some
+suis_lawful-requires-clause-some c = omega (arith, sui_count_lem c.args.file.now c.args.n, c.if-n-lt1.false)
+
+pub suis_lawful-requires-clause-whole : goal.suis_lawful-requires-clause-whole
+suis_lawful-requires-clause-whole c = omega (arith, months_of_lem c.args.file.now c.args.n)
+
 pub returns : goal.returns
 returns c =
     let a = c.args in
-    c.suis_at.ensures ∙ suis_decide_file a.file.now a.n c.if-n-lt1.false c.if-n-gt128.false (sym (judged (goal.at.returns c).After-leap_lawful) ∙ c.if-not-leap_lawful.false)
+    c.suis_lawful.ensures ∙ suis_decide_file a.file.now a.n c.if-n-lt1.false c.if-n-gt128.false (sym (judged (goal.at.returns c).After-leap_lawful) ∙ c.if-not-leap_lawful.false)

@@ -11,7 +11,7 @@ use Rattle.reader.proofs.inner.read_months.Goals as goal
 
 pub loop-i-init : goal.loop-i-init
 unfolding times numbers_in
-loop-i-init c = (omega arith, (refl, refl))
+loop-i-init c = refl
 
 pub bounds-out-i-in-loop-i : goal.bounds-out-i-in-loop-i
 bounds-out-i-in-loop-i c = simp length-set (omega arith)
@@ -26,21 +26,13 @@ loop-i-preserved c =
     let first = c.unsigned4_at in
     let second = c.signed4_at in
     let third = c.byte_at in
-    let room : 3 * i + 3 ≤ length c.loop-i.out = omega (arith, c.loop-i.invariant.1.0, c.loop-i-test.true, c.requires.n_in_bounds_2) in
-    let eight : c.args.at + 9 * i + 4 + 4 ≡ c.args.at + 9 * i + 8 = omega arith in (
-      omega (arith, c.loop-i-test.true),
-      (
-        simp length-set c.loop-i.invariant.1.0,
-        rw (back first.result first.type_inv, back second.result second.type_inv, back third.result third.type_inv, first.ensures, second.ensures, third.ensures, ← eight)
-            (three_stored c.loop-i.out (3 * i) _ _ _ room
-            ∙ read_turn month_fields 3 refl c.args.file.now c.args.at c.args.out.now i c.loop-i.invariant.1.1 _ refl),
-      ),
-    )
-
-pub shape_of-out : goal.shape_of-out
-shape_of-out c = c.loop-i.invariant.1.0
+    let room : 3 * i + 3 ≤ length c.loop-i.out = omega (arith, c.loop-i-test.true, c.requires.n_in_bounds_2) in
+    let eight : c.args.at + 9 * i + 4 + 4 ≡ c.args.at + 9 * i + 8 = omega arith in
+    rw (back first.result first.type_inv, back second.result second.type_inv, back third.result third.type_inv, first.ensures, second.ensures, third.ensures, ← eight)
+    (three_stored c.loop-i.out (3 * i) _ _ _ room
+    ∙ read_turn month_fields 3 refl c.args.file.now c.args.at c.args.out.now i c.loop-i.invariant _ refl)
 
 pub returns : goal.returns
 returns c =
-    let all : c.loop-i.i ≡ c.args.n = omega (arith, c.loop-i-test.false, c.loop-i.invariant.0) in
-    rw all at c.loop-i.invariant.1.1
+    let all : c.loop-i.i ≡ c.args.n = omega (arith, c.loop-i-test.false) in
+    rw all at c.loop-i.invariant

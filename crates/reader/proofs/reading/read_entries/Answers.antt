@@ -11,7 +11,7 @@ use Rattle.reader.proofs.reading.read_entries.Goals as goal
 
 pub loop-i-init : goal.loop-i-init
 unfolding times numbers_in
-loop-i-init c = (omega arith, (refl, refl))
+loop-i-init c = refl
 
 pub bounds-out-i-in-loop-i : goal.bounds-out-i-in-loop-i
 bounds-out-i-in-loop-i c = simp length-set (omega arith)
@@ -22,20 +22,12 @@ loop-i-preserved c =
     let i = c.loop-i.i in
     let first = c.signed4_at in
     let second = c.unsigned4_at in
-    let room : 2 * i + 2 ≤ length c.loop-i.out = omega (arith, c.loop-i.invariant.1.0, c.loop-i-test.true, c.requires.n_in_bounds_2) in (
-      omega (arith, c.loop-i-test.true),
-      (
-        simp length-set c.loop-i.invariant.1.0,
-        rw (back first.result first.type_inv, back second.result second.type_inv, first.ensures, second.ensures)
-            (two_stored c.loop-i.out (2 * i) _ _ room
-            ∙ read_turn entry_fields 2 refl c.args.file.now c.args.at c.args.out.now i c.loop-i.invariant.1.1 _ refl),
-      ),
-    )
-
-pub shape_of-out : goal.shape_of-out
-shape_of-out c = c.loop-i.invariant.1.0
+    let room : 2 * i + 2 ≤ length c.loop-i.out = omega (arith, c.loop-i-test.true, c.requires.n_in_bounds_2) in
+    rw (back first.result first.type_inv, back second.result second.type_inv, first.ensures, second.ensures)
+    (two_stored c.loop-i.out (2 * i) _ _ room
+    ∙ read_turn entry_fields 2 refl c.args.file.now c.args.at c.args.out.now i c.loop-i.invariant _ refl)
 
 pub returns : goal.returns
 returns c =
-    let all : c.loop-i.i ≡ c.args.n = omega (arith, c.loop-i-test.false, c.loop-i.invariant.0) in
-    rw all at c.loop-i.invariant.1.1
+    let all : c.loop-i.i ≡ c.args.n = omega (arith, c.loop-i-test.false) in
+    rw all at c.loop-i.invariant

@@ -25,4 +25,6 @@ returns c =
     let om : SFits w64 (get_or a.oldwords.now (a.oldplaces.moon + 1) (pos 0)) = record { sfits = (omega arith) } in
     let fs : SFits w64 (get_or a.words.now (a.places.sun + 1) (pos 0)) = record { sfits = (omega arith) } in
     let fm : SFits w64 (get_or a.words.now (a.places.moon + 1) (pos 0)) = record { sfits = (omega arith) } in
-    let told = rw (to_z-of_z c.ranges.zone) at c.rebuild.ensures in record { result_value = (by_inputs a.zone a.old.now a.file.now a.years.now (read_back a.oldwords.now a.oldplaces os om) (read_back a.words.now a.places fs fm) (told.result_value, (told.file_after, told.years_after))).0; file_after = (by_inputs a.zone a.old.now a.file.now a.years.now (read_back a.oldwords.now a.oldplaces os om) (read_back a.words.now a.places fs fm) (told.result_value, (told.file_after, told.years_after))).1.0; years_after = (by_inputs a.zone a.old.now a.file.now a.years.now (read_back a.oldwords.now a.oldplaces os om) (read_back a.words.now a.places fs fm) (told.result_value, (told.file_after, told.years_after))).1.1 }
+    let told = rw (to_z-of_z c.ranges.zone) at c.rebuild.ensures in
+    let made = by_inputs a.zone a.old.now a.file.now a.years.now (read_back a.oldwords.now a.oldplaces os om) (read_back a.words.now a.places fs fm) (told.result_value, (told.file_after, told.years_after)) in
+    record { result_value = made.0; file_after = made.1.0; years_after = made.1.1 }

@@ -6,12 +6,11 @@ use mathlib.Core.List.{List}
 use Prim.Native.Nat.{suc, ◌<◌}
 use lib.IntN.{ℤ}
 use mir.Facts.{to_z-of_z}
-use Rattle.refusals.specs.Verdict.{answered_then, refused_then}
+use Rattle.refusals.specs.Verdict.{paper, answered_then, refused_then}
 use Rattle.series.specs.Series.{Series}
 use Rattle.inputs.specs.Inputs.{Inputs, inputs, sun, moon}
 use Rattle.months.specs.Limits.{year_in_range}
 use Rattle.months.specs.Months.{days_of}
-use Rattle.months.specs.Answers.{days_answer}
 use Rattle.months.proofs.theory.Kept.{year_small}
 use Rattle.turns.specs.Listed.{turn_index_of, turn_days, turns_of}
 use Rattle.sui.specs.theory.Found.{one_in_each, zhongqi_from}
@@ -60,8 +59,8 @@ at_zhongqi c = (start_of c).requires.are_zhongqi (listed c)
 
 pub returns-then-not-in_range : goal.returns-then-not-in_range
 returns-then-not-in_range c =
-    let out = sym (at_range c.before.before) ∙ c.if-not-in_range.true in
-    c.no_days.ensures ∙ ap days_answer (out_of_range (inputs_of c.before.before.before) c.args.zone c.requires.is_known c.args.year out)
+    let out = sym (at_range (goal.at.returns-then-not-in_range c).After-in_range) ∙ c.if-not-in_range.true in
+    (out_of_range (inputs_of (goal.at.returns-then-not-in_range c).Start) c.args.zone c.requires.is_known c.args.year out)
 
 pub one_in_each-requires : goal.one_in_each-requires
 one_in_each-requires c = rw (to_z-of_z c.ranges.year) (year_small c.args.year (at_year c))
@@ -69,11 +68,9 @@ one_in_each-requires c = rw (to_z-of_z c.ranges.year) (year_small c.args.year (a
 pub returns-then-not-one_in_each : goal.returns-then-not-one_in_each
 returns-then-not-one_in_each c =
     let a = c.args in
-    let none = sym (at_each c.before.before) ∙ c.if-not-one_in_each.true in
-    c.no_days-then-not-one_in_each.ensures
-    ∙ ap days_answer
-    (refused_then (λ (j : ℤ). days_of (turn_days a.leap.now (moon (inputs_of c.before.before.before.before.before)) a.zone) (zhongqi_from a.leap.now (sun_of c.before.before.before.before.before) a.zone j)) (missing_when a.leap.now (sun_of c.before.before.before.before.before) a.zone a.year none)
-    ∙ sym (sui_days_are (inputs_of c.before.before.before.before.before) a.zone c.requires.is_known a.year (at_year c.before.before.before)))
+    let none = sym (at_each (goal.at.returns-then-not-one_in_each c).After-one_in_each) ∙ c.if-not-one_in_each.true in
+    (refused_then (λ (j : ℤ). days_of (turn_days a.leap.now (moon (inputs_of (goal.at.returns-then-not-one_in_each c).Start)) a.zone) (zhongqi_from a.leap.now (sun_of (goal.at.returns-then-not-one_in_each c).Start) a.zone j)) (missing_when a.leap.now (sun_of (goal.at.returns-then-not-one_in_each c).Start) a.zone a.year none)
+    ∙ sym (sui_days_are (inputs_of (goal.at.returns-then-not-one_in_each c).Start) a.zone c.requires.is_known a.year (at_year (goal.at.returns-then-not-one_in_each c).Else-not-in_range)))
 
 pub days_within-requires : goal.days_within-requires
 days_within-requires c =
@@ -87,11 +84,10 @@ returns c =
     let start = start_of c.before in
     let a = start.args in
     let moons = turn_days a.leap.now (moon (inputs_of start)) a.zone in
-    let days : c.days_within.result ≡ days_answer (days_of moons a.zhongqi.now) = rw (to_z-of_z start.ranges.zone) at c.days_within.ensures in
+    let days : paper c.days_within.result ≡ days_of moons a.zhongqi.now = rw (to_z-of_z start.ranges.zone) at c.days_within.ensures in
     let index = ap (turn_index_of (sun_of start)) start.requires.is_place in
     days
-    ∙ ap (λ (l : List ℤ). days_answer (days_of moons l)) (at_zhongqi c.before)
-    ∙ ap (λ (j : ℤ). days_answer (days_of moons (zhongqi_from a.leap.now (sun_of start) a.zone j))) index
-    ∙ ap days_answer
-    (answered_then (λ (j : ℤ). days_of moons (zhongqi_from a.leap.now (sun_of start) a.zone j)) (found_when a.leap.now (sun_of start) a.zone a.year (found_one c.before))
+    ∙ ap (λ (l : List ℤ). (days_of moons l)) (at_zhongqi c.before)
+    ∙ ap (λ (j : ℤ). (days_of moons (zhongqi_from a.leap.now (sun_of start) a.zone j))) index
+    ∙ (answered_then (λ (j : ℤ). days_of moons (zhongqi_from a.leap.now (sun_of start) a.zone j)) (found_when a.leap.now (sun_of start) a.zone a.year (found_one c.before))
     ∙ sym (sui_days_are (inputs_of start) a.zone start.requires.is_known a.year (at_year c.before.before.before)))

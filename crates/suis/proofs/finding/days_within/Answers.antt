@@ -1,5 +1,5 @@
 -- `suis::finding::days_within` meets its contract. In the needs, `start` is the function's entry. Assumes nothing.
-use mathlib.Core.Path.{sym, ap, ◌∙◌}
+use mathlib.Core.Path.{sym, ◌∙◌}
 use mathlib.Core.List.{List}
 use borrow.Author.Rules.{rules}
 use lib.IntN.{ℤ, pos}
@@ -12,7 +12,6 @@ use mir.Facts.{to_z-of_z}
 use Rattle.whole.specs.Solver.{le_yes, le_no}
 use Rattle.series.specs.declared.Body.TheVariants.{Moon}
 use Rattle.series.specs.Series.{Series, series}
-use Rattle.months.specs.Answers.{days_answer}
 use Rattle.suis.specs.theory.Within.{short_part, long_part, crowded_part}
 use Rattle.suis.proofs.finding.days_within.Goals as goal
 use Rattle.suis.proofs.finding.days_within.Goals.{Else-newmoons-last, Start, Then-newmoons-last}
@@ -39,14 +38,14 @@ behind_last c =
 pub returns-then-newmoons-lt15 : goal.returns-then-newmoons-lt15
 returns-then-newmoons-lt15 c =
     let a = c.args in
-    c.days_of.ensures ∙ ap days_answer (short_part a.leap.now (series_of c.before.before) a.zone c.requires.searched.ready (zhongqi_of c.before.before) c.requires.pos_bound c.requires.nonzero c.requires.ahead c.if-newmoons-lt15.true)
+    c.days_of.ensures ∙ (short_part a.leap.now (series_of c.before.before) a.zone c.requires.searched.ready (zhongqi_of c.before.before) c.requires.pos_bound c.requires.nonzero c.requires.ahead c.if-newmoons-lt15.true)
 
 pub returns-then-newmoons-last : goal.returns-then-newmoons-last
 returns-then-newmoons-last c =
     let a = c.args in
     let g : SFits w64 (get_or (zhongqi_of c.before.before.before.before.before) 12 (pos 0)) = search rules in
     (rw (to_z-of_z c.ranges.zone, to_z-of_z g) at c.too_many.ensures)
-    ∙ ap days_answer (crowded_part a.leap.now (series_of c.before.before.before.before.before) a.zone c.requires.searched.ready (zhongqi_of c.before.before.before.before.before) c.requires.pos_bound c.requires.nonzero c.requires.ahead c.if-newmoons-lt15.false (by_last c.before))
+    ∙ (crowded_part a.leap.now (series_of c.before.before.before.before.before) a.zone c.requires.searched.ready (zhongqi_of c.before.before.before.before.before) c.requires.pos_bound c.requires.nonzero c.requires.ahead c.if-newmoons-lt15.false (by_last c.before))
 
 pub slice_bounds-days_of-end : goal.slice_bounds-days_of-end
 slice_bounds-days_of-end c = sym (length-take-le 15 c.args.newmoons.now c.if-newmoons-lt15.false)
@@ -55,4 +54,4 @@ pub returns : goal.returns
 returns c =
     let a = c.args in
     c.days_of-2.ensures
-    ∙ ap days_answer (long_part a.leap.now (series_of c.before.before.before.before.before) a.zone c.requires.searched.ready (zhongqi_of c.before.before.before.before.before) c.requires.pos_bound c.requires.nonzero c.requires.ahead c.if-newmoons-lt15.false (behind_last c.before))
+    ∙ (long_part a.leap.now (series_of c.before.before.before.before.before) a.zone c.requires.searched.ready (zhongqi_of c.before.before.before.before.before) c.requires.pos_bound c.requires.nonzero c.requires.ahead c.if-newmoons-lt15.false (behind_last c.before))

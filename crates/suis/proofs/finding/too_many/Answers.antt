@@ -1,11 +1,10 @@
 -- `suis::finding::too_many` meets its contract. In the needs, `start` is the function's entry. Assumes nothing.
-use mathlib.Core.Path.{◌≡◌, ap, ◌∙◌}
+use mathlib.Core.Path.{◌≡◌}
 use native.Mathlib.Omega.{arith}
 use mir.Facts.{to_z-of_z}
 use Prim.Native.Nat.{ℕ}
 use Rattle.series.specs.declared.Body.TheVariants.{Moon}
 use Rattle.series.specs.Series.{Series, series}
-use Rattle.months.specs.Answers.{days_answer}
 use Rattle.turns.specs.Listed.{turns_by, turns_of}
 use Rattle.turns.specs.Searched.{count_is}
 use Rattle.suis.specs.theory.Window.{crowded_eight, crowded_nine}
@@ -24,9 +23,9 @@ at_by c = rw (to_z-of_z c.ranges.zone, to_z-of_z c.ranges.last) at c.turns_by-by
 pub returns-then-listed-by : goal.returns-then-listed-by
 returns-then-listed-by c =
     let listed = count_is c.requires in
-    c.no_days.ensures ∙ ap days_answer (crowded_eight (turns_of (series_of c.before.before.before)) (counted c.before.before.before) (omega (arith, at_by c.before.before, listed, c.if-listed-by.true)))
+    (crowded_eight (turns_of (series_of (goal.at.returns-then-listed-by c).Start)) (counted (goal.at.returns-then-listed-by c).Start) (omega (arith, at_by (goal.at.returns-then-listed-by c).After-turns_by-by, listed, c.if-listed-by.true)))
 
 pub returns : goal.returns
 returns c =
     let listed = count_is c.requires in
-    c.no_days-2.ensures ∙ ap days_answer (crowded_nine (turns_of (series_of c.before.before.before)) (counted c.before.before.before) (omega (arith, at_by c.before.before, listed, c.if-listed-by.false)))
+    (crowded_nine (turns_of (series_of (goal.at.returns c).Start)) (counted (goal.at.returns c).Start) (omega (arith, at_by (goal.at.returns c).After-turns_by-by, listed, c.if-listed-by.false)))

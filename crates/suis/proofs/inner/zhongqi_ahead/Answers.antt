@@ -9,7 +9,7 @@ use lib.ListN.{length, get_or}
 use mir.Syntax.{w64}
 use mir.Val.{SFits, of_z, to_z}
 use mir.Facts.{to_z-of_z}
-use Rattle.whole.specs.Lists.{placed, placed_length}
+use Rattle.whole.specs.Lists.{placed}
 use Rattle.whole.specs.Ranges.{back, fits_of}
 use Rattle.series.specs.declared.Body.TheVariants.{Sun}
 use Rattle.series.specs.Series.{Series, series}
@@ -18,7 +18,7 @@ use Rattle.turns.specs.Listed.{turn_index_of, turn_after, turns_of}
 use Rattle.turns.specs.Searched.{turn_fits, circles_small, count_is, count_small}
 use Rattle.sui.specs.theory.Found.{zhongqi_from}
 use Rattle.suis.specs.Ahead.{zhongqi_of}
-use Rattle.suis.specs.theory.Zhongqi.{nothing_put, length_zhongqi, sui_put, first_known, last_known, last_listed, both_turns}
+use Rattle.suis.specs.theory.Zhongqi.{nothing_put, sui_put, first_known, last_known, last_listed, both_turns}
 use Rattle.suis.proofs.inner.zhongqi_ahead.Goals as goal
 use Rattle.suis.proofs.inner.zhongqi_ahead.Lts as lts
 use Rattle.suis.proofs.inner.zhongqi_ahead.Reads as reads
@@ -38,13 +38,7 @@ abbrev index_of : Loop → ℤ
 index_of c = turn_index_of (sun_of c.before) (c.args.place + c.loop-j.j)
 
 at_head : (c : Loop) → c.loop-j.out ≡ placed 0 (zhongqi_of c.args.leap.now (sun_of c.before) c.args.zone c.args.place c.loop-j.j) c.args.out.now
-at_head c = rw (to_z-of_z c.ranges.zone) at c.loop-j.invariant.1
-
-at_long : (c : Loop) → length c.loop-j.out ≡ length c.args.out.now
-at_long c =
-    let a = c.args in
-    let before = zhongqi_of a.leap.now (sun_of c.before) a.zone a.place c.loop-j.j in
-    ap length (at_head c) ∙ placed_length a.out.now before 0 (omega (arith, length_zhongqi a.leap.now (sun_of c.before) a.zone a.place c.loop-j.j, c.loop-j.invariant.0, c.requires.m_in_bounds_2))
+at_head c = rw (to_z-of_z c.ranges.zone) at c.loop-j.invariant
 
 -- both solstices of sui j stand among the lent days
 both : (c : Loop) → c.loop-j.j < c.args.m → c.loop-j.j + 1 < length c.args.solstices.now
@@ -68,7 +62,7 @@ at_zhongqi : (c : lts.After-zhongqi_days tie.the-claims reads.Pre reads.Post goa
 at_zhongqi c = rw (at_index c.before.before.before, to_z-of_z c.ranges.zone) at c.zhongqi_days-days.ensures
 
 pub loop-j-init : goal.loop-j-init
-loop-j-init c = (omega arith, nothing_put c.args.leap.now (sun_of c) (to_z w64 (of_z w64 c.args.zone)) c.args.place c.args.out.now)
+loop-j-init c = nothing_put c.args.leap.now (sun_of c) (to_z w64 (of_z w64 c.args.zone)) c.args.place c.args.out.now
 
 pub overflow_add-place : goal.overflow_add-place
 overflow_add-place c = record { fits = omega (arith, listed c.before c.loop-j-test.true, count_small c.requires.searched) }
@@ -78,12 +72,6 @@ turn_index-index-requires c =
     let e = c.requires.searched.ready.is_accepted in
     let there : c.args.place + c.loop-j.j < turns_of (sun_of c.before.before.before.before) = omega (arith, listed c.before.before.before c.loop-j-test.true, count_is c.requires.searched) in
     let f = fits_of c.args.suns.first (omega arith) in record { k_bound = circles_small (sun_of c.before.before.before.before) e (c.args.place + c.loop-j.j) there; sfits = rw (to_z-of_z f, index_made c.before.before.before) (turn_fits (sun_of c.before.before.before.before) e (c.args.place + c.loop-j.j) there) }
-
-pub bounds-solstices-j : goal.bounds-solstices-j
-bounds-solstices-j c = omega (arith, both c.before.before.before.before c.loop-j-test.true)
-
-pub bounds-solstices-j-in-loop-j : goal.bounds-solstices-j-in-loop-j
-bounds-solstices-j-in-loop-j c = both c.before.before.before.before.before c.loop-j-test.true
 
 pub zhongqi_days-days-requires : goal.zhongqi_days-days-requires
 zhongqi_days-days-requires c =
@@ -96,25 +84,13 @@ zhongqi_days-days-requires c =
     rw (at_index c.before.before.before, to_z-of_z c.ranges.zone, to_z-of_z f, to_z-of_z g)
     (record { ready = c.requires.searched.ready; within = c.requires.searched.zone_small; coefs_bound = turn_after (sun_of c.before.before.before.before.before.before.before) (a.place + j); pos_bound = last_listed ahead j two; first_value = first_known ahead j two; last_value = last_known ahead j two })
 
-pub overflow_mul-j : goal.overflow_mul-j
-overflow_mul-j c = record { fits = omega (arith, listed c.before.before.before.before.before.before.before.before c.loop-j-test.true, count_small c.requires.searched) }
-
-pub put_thirteen-requires : goal.put_thirteen-requires
-put_thirteen-requires c = omega (arith, c.loop-j-test.true, at_long c.before.before.before.before.before.before.before.before, c.requires.m_in_bounds_2)
-
-pub loop-j-smaller : goal.loop-j-smaller
-loop-j-smaller c = omega (arith, c.loop-j-test.true)
-
 pub loop-j-preserved : goal.loop-j-preserved
 loop-j-preserved c =
     let taken = c.loop-j-test.true in
     let a = c.args in
-    (omega (arith, taken), rw (to_z-of_z c.ranges.zone) (c.put_thirteen.ensures ∙ ap (λ (l : List ℤ). placed (13 * c.loop-j.j) l c.loop-j.out) (at_zhongqi c.before.before.before.before) ∙ sui_put a.leap.now (sun_of c.before.before.before.before.before.before.before.before.before.before.before) a.zone a.place a.out.now c.loop-j.j (omega (arith, taken, c.requires.m_in_bounds_2)) (at_head c.before.before.before.before.before.before.before.before.before.before)))
-
-pub shape_of-out : goal.shape_of-out
-shape_of-out c = at_long c.before
+    rw (to_z-of_z c.ranges.zone) (c.put_thirteen.ensures ∙ ap (λ (l : List ℤ). placed (13 * c.loop-j.j) l c.loop-j.out) (at_zhongqi c.before.before.before.before) ∙ sui_put a.leap.now (sun_of c.before.before.before.before.before.before.before.before.before.before.before) a.zone a.place a.out.now c.loop-j.j (omega (arith, taken, c.requires.m_in_bounds_2)) (at_head c.before.before.before.before.before.before.before.before.before.before))
 
 pub returns : goal.returns
 returns c =
-    let all : c.loop-j.j ≡ c.args.m = omega (arith, c.loop-j-test.false, c.loop-j.invariant.0) in
+    let all : c.loop-j.j ≡ c.args.m = omega (arith, c.loop-j-test.false) in
     rw all at (at_head c.before)

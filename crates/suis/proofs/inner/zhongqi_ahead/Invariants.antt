@@ -1,6 +1,5 @@
 -- `suis::inner::zhongqi_ahead` meets its contract. The loop's invariant: the zhongqi days of the first j suis stand in front. Assumes nothing.
 use mathlib.Core.Path.{◌≡◌}
-use Prim.Native.Nat.{◌-◌, ◌≤◌}
 use Rattle.whole.specs.Lists.{placed}
 use Rattle.series.specs.declared.Body.TheVariants.{Sun}
 use Rattle.series.specs.Series.{series}
@@ -8,7 +7,4 @@ use Rattle.suis.specs.Ahead.{zhongqi_of}
 use Rattle.suis.proofs.inner.zhongqi_ahead.Given as goal
 
 abbrev pub invariant-loop-j : goal.invariant-loop-j
-invariant-loop-j l = (l.j ≤ l.m) × (l.out ≡ placed 0 (zhongqi_of l.leap (series Sun l.start.0 l.coefs) (l.zone) l.place l.j) l.initial.out)
-
-abbrev pub decreases-loop-j : goal.decreases-loop-j
-decreases-loop-j l = l.m - l.j
+invariant-loop-j l = l.out ≡ placed 0 (zhongqi_of l.leap (series Sun l.start.0 l.coefs) (l.zone) l.place l.j) l.initial.out

@@ -2,7 +2,7 @@
 use Prim.Native.Nat.{ℕ, suc, ◌+◌, ◌*◌, ◌<◌}
 use borrow.Author.Rules.{rules}
 use lib.IntN.{ℤ, pos}
-use lib.ListN.{length, drop, set, length-set}
+use lib.ListN.{length, take, drop, set}
 use lib.Seq.{set_at, drop-cons, append_snoc}
 use mathlib.Core.List.{List, ◌++◌}
 use mathlib.Core.Path.{◌≡◌, refl, sym, ap, ◌∙◌}
@@ -10,7 +10,6 @@ use mir.Facts.{to_z-of_z}
 use mir.Syntax.{w64}
 use mir.Val.{SFits}
 use native.Mathlib.Numerals.{add-one}
-use native.Mathlib.Omega.{arith}
 use Rattle.words.specs.Words.{word8, words, words_length}
 use Rattle.words.proofs.inner.read_words.Goals as goal
 
@@ -25,41 +24,9 @@ more s d i h =
 
 pub loop-i-init : goal.loop-i-init
 unfolding words
-loop-i-init c = (omega arith, refl, refl)
-
-pub overflow_mul-i : goal.overflow_mul-i
-overflow_mul-i c = omega arith
-
-pub word_at-requires : goal.word_at-requires
-word_at-requires c = omega arith
-
-pub offset_bounds-dst-i : goal.offset_bounds-dst-i
-offset_bounds-dst-i c = omega arith
-
-pub bounds-dst-i : goal.bounds-dst-i
-bounds-dst-i c = omega arith
-
-pub overflow_add-i : goal.overflow_add-i
-overflow_add-i c = omega arith
-
-pub loop-i-smaller : goal.loop-i-smaller
-loop-i-smaller c = omega arith
+loop-i-init c = refl
 
 pub loop-i-preserved : goal.loop-i-preserved
 loop-i-preserved c =
-    let s = c.before.before.before.before in
-    let l = c.before.before.loop-i in
     let fr : SFits w64 c.word_at.result = search rules in
-    let here : l.i < length s.args.dst.now = omega arith in (
-      omega arith,
-      simp length-set l.invariant.1,
-      rw (to_z-of_z fr, c.word_at.ensures, l.invariant.2) (more s.args.src.now s.args.dst.now l.i here),
-    )
-
-pub shape_of-dst : goal.shape_of-dst
-shape_of-dst c = c.before.loop-i.invariant.1
-
-pub returns : goal.returns
-returns c =
-    let all : c.before.loop-i.i ≡ c.before.before.before.args.n = omega arith in
-    rw all at c.before.loop-i.invariant.2
+    rw (to_z-of_z fr, c.word_at.ensures, c.loop-i.invariant) (more c.args.src.now (take c.args.n c.args.dst.now) c.loop-i.i c.loop-i-test.true)

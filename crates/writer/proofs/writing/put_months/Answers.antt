@@ -20,7 +20,7 @@ words_of : (start : Start) → length start.args.months.now ≡ 3 * start.args.n
 words_of start = fit_length (times start.args.n month_fields) start.args.months.now start.requires.fit ∙ length_times start.args.n month_fields
 
 pub loop-i-init : goal.loop-i-init
-loop-i-init c = (omega arith, (refl, write_none month_fields 3 refl c.args.months.now c.args.at c.args.out.now))
+loop-i-init c = write_none month_fields 3 refl c.args.months.now c.args.at c.args.out.now
 
 pub offset_bounds-months-i : goal.offset_bounds-months-i
 offset_bounds-months-i c =
@@ -53,7 +53,7 @@ put_month-requires c =
     let f1 : SFits w64 (get_or c.args.months.now (3 * i + 1) (pos 0)) = search rules in
     let f2 : SFits w64 (get_or c.args.months.now (3 * i + 2) (pos 0)) = search rules in
     let fit = three_fit unsigned signed one_byte c.args.n c.args.months.now c.requires.fit i c.loop-i-test.true in
-    rw (to_z-of_z f0, to_z-of_z f1, to_z-of_z f2) (record { at_in_bounds = omega (arith, c.loop-i.invariant.1.0, c.loop-i-test.true, c.requires.n_in_bounds); fits_field = fit.0; fits_field_2 = fit.1.0; fits_field_3 = fit.1.1 })
+    rw (to_z-of_z f0, to_z-of_z f1, to_z-of_z f2) (record { at_in_bounds = omega (arith, c.loop-i-test.true, c.requires.n_in_bounds); fits_field = fit.0; fits_field_2 = fit.1.0; fits_field_3 = fit.1.1 })
 
 pub loop-i-preserved : goal.loop-i-preserved
 unfolding widths
@@ -63,18 +63,10 @@ loop-i-preserved c =
     let f1 : SFits w64 (get_or c.args.months.now (3 * i + 1) (pos 0)) = search rules in
     let f2 : SFits w64 (get_or c.args.months.now (3 * i + 2) (pos 0)) = search rules in
     let part = three_of c.args.months.now (3 * i) (omega (arith, c.loop-i-test.true, words_of (goal.at.loop-i-preserved c).Start)) in
-    let put = rw (to_z-of_z f0, to_z-of_z f1, to_z-of_z f2) at c.put_month.ensures in (
-      omega (arith, c.loop-i-test.true),
-      (
-        search rules,
-        put ∙ write_turn month_fields 3 refl c.args.months.now c.args.at c.args.out.now i (omega (arith, c.loop-i-test.true, words_of (goal.at.loop-i-preserved c).Start)) (omega (arith, c.loop-i-test.true, c.requires.n_in_bounds)) c.loop-i.invariant.1.1 _ part,
-      ),
-    )
-
-pub shape_of-out : goal.shape_of-out
-shape_of-out c = c.loop-i.invariant.1.0
+    let put = rw (to_z-of_z f0, to_z-of_z f1, to_z-of_z f2) at c.put_month.ensures in
+    put ∙ write_turn month_fields 3 refl c.args.months.now c.args.at c.args.out.now i (omega (arith, c.loop-i-test.true, words_of (goal.at.loop-i-preserved c).Start)) (omega (arith, c.loop-i-test.true, c.requires.n_in_bounds)) c.loop-i.invariant _ part
 
 pub returns : goal.returns
 returns c =
-    let all : c.loop-i.i ≡ c.args.n = omega (arith, c.loop-i-test.false, c.loop-i.invariant.0) in
-    rw (all, write_all month_fields 3 refl c.args.months.now c.args.at c.args.out.now c.args.n c.requires.fit) at c.loop-i.invariant.1.1
+    let all : c.loop-i.i ≡ c.args.n = omega (arith, c.loop-i-test.false) in
+    rw (all, write_all month_fields 3 refl c.args.months.now c.args.at c.args.out.now c.args.n c.requires.fit) at c.loop-i.invariant

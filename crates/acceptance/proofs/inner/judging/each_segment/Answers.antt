@@ -3,7 +3,6 @@ use mathlib.Core.Path.{◌≡◌, sym, ◌∙◌}
 use mathlib.Core.Bool.{false}
 use mathlib.Core.List.{List}
 use Prim.Native.Nat.{ℕ, ◌<◌}
-use native.Mathlib.Omega.{arith}
 use lib.IntN.{ℤ, pos, neg_ℤ, ◌-ℤ◌}
 use lib.ListN.{length}
 use mir.Syntax.{w64}
@@ -94,12 +93,6 @@ ends_of-ends-requires c = record { part_len = (at_segment c.before.before).0; in
 pub joins_badly-requires : goal.joins_badly-requires
 joins_badly-requires c =
     let good = good_of c.before.before in record { within = good.before.before.before.before.loop-k.invariant.last_small; within_2 = rw (at_first c.before.before) (value_bound (at_range good) first_within) }
-
-pub overflow_add-k : goal.overflow_add-k
-overflow_add-k c = let below = at_below (good_of c.before.before.before.before).before in record { fits = omega arith }
-
-pub loop-k-smaller : goal.loop-k-smaller
-loop-k-smaller c = let below = at_below (good_of c.before.before.before.before).before in omega arith
 
 pub loop-k-preserved : goal.loop-k-preserved
 loop-k-preserved c =

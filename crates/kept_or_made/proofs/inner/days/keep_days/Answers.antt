@@ -1,28 +1,28 @@
 -- `kept_or_made::inner::days::keep_days` meets its contract. The loop's invariant: the suis of the years before year j are found, and their days stand in front.
 -- Assumes nothing.
-use mathlib.Core.Path.{◌≡◌, refl, ap, ◌∙◌}
+use Rattle.std.specs.Prelude.{Ok}
+use mathlib.Core.Path.{◌≡◌, refl, sym, ap, ◌∙◌}
 use mathlib.Core.List.{List}
 use Prim.Native.Nat.{ℕ, ◌+◌, ◌*◌, ◌≤◌, ◌<◌}
 use native.Mathlib.Omega.{arith}
 use lib.IntN.{ℤ, pos, ◌+ℤ◌}
-use lib.ListN.{length}
 use mir.Syntax.{w64}
 use mir.Val.{of_z, to_z}
 use mir.Facts.{to_z-of_z}
-use Rattle.whole.specs.Lists.{placed, placed_length}
+use Rattle.whole.specs.Lists.{placed}
 use Rattle.whole.specs.Ranges.{Within, fits<, bounds, back}
 use Rattle.inputs.specs.Inputs.{Inputs, inputs, sun}
-use Rattle.months.specs.declared.DaysAnswer.{DaysAnswer}
 use Rattle.months.specs.declared.SuiDays.{SuiDays}
-use Rattle.months.specs.Answers.{days_answer}
 use Rattle.months.proofs.theory.Kept as Kept
 use Rattle.turns.specs.Listed.{turns_few}
+use Rattle.sui.specs.Sui.{sui_days}
 use Rattle.suis.specs.Ahead.{YearIn}
 use Rattle.build.specs.theory.Walk.{reach_starts, reach_goes_on, year_in}
 use Rattle.rebuilt.specs.Rebuild.{days_words}
-use Rattle.kept_or_made.specs.OldDays.{AtOld, DaysOf, days_of_years, days_of_lem, days_long, moons_long, zhongqi_long, words_long, nothing_put, year_put}
+use Rattle.kept_or_made.specs.OldDays.{AtOld, DaysOf, days_of_years, days_of_lem, moons_long, zhongqi_long, nothing_put, year_put}
 use Rattle.kept_or_made.proofs.inner.days.keep_days.Goals as goal
-use Rattle.kept_or_made.proofs.inner.days.keep_days.Goals.{After-add-year, After-days_after-found, After-days_words-words, After-signed, At-loop-j, Start}
+use Rattle.kept_or_made.proofs.inner.days.keep_days.Goals.{After-add-year, After-signed, At-loop-j, Start}
+use Rattle.refusals.specs.Verdict.{answered, answered_is, answers_apart, results_apart}
 
 abbrev Loop : Type 0
 Loop = At-loop-j
@@ -45,7 +45,7 @@ at_signed : (c : After-signed) → to_z w64 (of_z w64 c.signed.result) ≡ pos c
 at_signed c = back c.signed.result c.signed.type_inv ∙ c.signed.ensures
 
 at_added : (c : After-add-year) → to_z w64 (of_z w64 c.add-year.result) ≡ c.args.first +ℤ pos c.loop-j.j
-at_added c = back c.add-year.result c.add-year.type_inv ∙ (rw (to_z-of_z c.ranges.first, at_signed c.before) at c.add-year.ensures)
+at_added c = back c.add-year.result c.add-year.type_inv ∙ (rw (to_z-of_z {w = w64} c.ranges.first, back c.signed.result c.signed.type_inv ∙ c.signed.ensures) at c.add-year.ensures)
 
 -- what finding its days asks
 year_of : (c : Loop) → c.loop-j.j < c.args.n → (let a = c.args in YearIn (inputs_of c.before) a.zone a.suns a.moons (a.first +ℤ pos c.loop-j.j) (a.places.solstice + c.loop-j.j) c.loop-j.j c.loop-j.from a.solstices.now a.newmoons.now a.zhongqi.now)
@@ -54,37 +54,9 @@ year_of c h = let a = c.args in let t = at_turn c in rw t.is_place at (year_in (
 days_there : (c : Loop) → c.loop-j.j < c.args.n → DaysOf (inputs_of c.before) c.args.zone (c.args.first +ℤ pos c.loop-j.j)
 days_there c h = let a = c.args in let t = at_turn c in days_of_lem (inputs_of c.before) a.zone a.first t.walks.begun.is_known a.n t.all c.loop-j.j h
 
-abbrev Found : Type 0
-Found = After-days_after-found
-
-abbrev loop_of : Found → Loop
-loop_of c = c.before.before.before.before
-
-abbrev taken_of : (c : Found) → (loop_of c).loop-j.j < (loop_of c).before.args.n
-taken_of c = c.loop-j-test.true
-
-at_days : (c : Found) → c.days_after-found.result.days ≡ (days_there (loop_of c) (taken_of c)).days
-at_days c =
-    let loop = loop_of c in
-    let is = days_there loop (taken_of c) in
-    ap (λ (r : DaysAnswer). r.days) ((rw (to_z-of_z loop.ranges.zone, at_added c.before) at c.days_after-found.ensures) ∙ ap days_answer is.are_days)
-
--- the words stand in front, and nothing is made longer or shorter
-at_long : (c : Loop) → length c.loop-j.out ≡ length c.args.out.now
-at_long c =
-    let a = c.args in
-    let t = at_turn c in
-    let long = days_long (inputs_of c.before) a.zone a.first t.walks.begun.is_known a.n t.all c.loop-j.j t.in_turn in
-    ap length t.put ∙ placed_length a.out.now (days_of_years (inputs_of c.before) a.zone a.first c.loop-j.j) 0 (omega (arith, long, t.in_turn, c.requires.n_in_bounds))
-
--- as words
-at_words : (c : After-days_words-words) → c.days_words-words.result ≡ days_words (days_there (loop_of c.before.before) (taken_of c.before.before)).days
-at_words c = c.days_words-words.ensures ∙ ap days_words (at_days c.before.before)
-
-words_there : (c : After-days_words-words) → length c.days_words-words.result ≡ 28
-words_there c =
-    let start = (loop_of c.before.before).before in
-    ap length (at_words c) ∙ words_long (inputs_of start) start.args.zone (at_turn (loop_of c.before.before)).walks.begun.is_known _ (days_there (loop_of c.before.before) (taken_of c.before.before)).are_days
+-- the days that are answered are those of year j
+at_days : (c : Loop) (taken : c.loop-j.j < c.args.n) {days : SuiDays} → sui_days (inputs_of c.before) c.args.zone (c.args.first +ℤ pos c.loop-j.j) ≡ answered days → days ≡ (days_there c taken).days
+at_days c taken e = answers_apart (sym e ∙ (days_there c taken).are_days)
 
 pub loop-j-init : goal.loop-j-init
 loop-j-init c =
@@ -101,63 +73,69 @@ loop-j-init c =
       in_turn = omega arith;
     })
 
-pub signed-requires : goal.signed-requires
-signed-requires c = omega (arith, few c.before)
-
 pub add-year-requires : goal.add-year-requires
-add-year-requires c = let small = year_small c.before.before.before in rw (to_z-of_z c.ranges.first, at_signed c) (fits< (search bounds) (omega (arith, few c.before.before)))
+add-year-requires c =
+    let at = goal.at.add-year-requires c in
+    let small = year_small at.Start in
+    rw (to_z-of_z c.ranges.first, at_signed at.After-signed) (fits< (search bounds) (omega (arith, few at.At-loop-j)))
 
 pub overflow_add-place : goal.overflow_add-place
 overflow_add-place c =
-    let t = at_turn c.before.before.before in
-    record { fits = omega (arith, few c.before.before.before, t.is_place, t.walks.solstices_ahead.inside, turns_few (sun (inputs_of c.before.before.before.before)) t.walks.begun.is_known.sun_ready.is_accepted) }
+    let loop = (goal.at.overflow_add-place c).At-loop-j in
+    let t = at_turn loop in
+    record { fits = omega (arith, few loop, t.is_place, t.walks.solstices_ahead.inside, turns_few (sun (inputs_of loop.before)) t.walks.begun.is_known.sun_ready.is_accepted) }
 
-pub days_after-found-requires : goal.days_after-found-requires
-days_after-found-requires c =
-    rw (to_z-of_z c.ranges.zone, at_added c) (year_of c.before.before.before c.loop-j-test.true)
+pub days_after-requires : goal.days_after-requires
+days_after-requires c =
+    let at = goal.at.days_after-requires c in
+    rw (to_z-of_z c.ranges.zone, at_added at.After-add-year) (year_of at.At-loop-j c.loop-j-test.true)
+
+pub unwrap-days-requires : goal.unwrap-days-requires
+unwrap-days-requires c =
+    let at = goal.at.unwrap-days-requires c in
+    let is = days_there at.At-loop-j c.loop-j-test.true in
+    let said = rw (to_z-of_z {w = w64} c.ranges.zone, at_added at.After-add-year) at c.days_after.ensures in
+    rw (results_apart c.days_after.result (Ok is.days) (said ∙ is.are_days)) refl
 
 pub days_words-words-requires : goal.days_words-words-requires
 days_words-words-requires c =
-    let start = (loop_of c.before).before in
-    let known = (at_turn (loop_of c.before)).walks.begun.is_known in
-    let is = days_there (loop_of c.before) (taken_of c.before) in
-    rw (at_days c.before) (record { months_bound = is.few_months; moons_len = moons_long (inputs_of start) start.args.zone known _ is.are_days; zhongqi_len = zhongqi_long (inputs_of start) start.args.zone known _ is.are_days })
-
-pub overflow_mul-j : goal.overflow_mul-j
-overflow_mul-j c = record { fits = omega (arith, few (loop_of c.before.before.before.before)) }
-
-pub put_words-requires : goal.put_words-requires
-put_words-requires c = let loop = loop_of c.before.before.before.before in omega (arith, words_there c.before.before, at_long loop, taken_of c.before.before.before.before, loop.before.requires.n_in_bounds)
+    let at = goal.at.days_words-words-requires c in
+    let is = days_there at.At-loop-j c.loop-j-test.true in
+    let said = rw (to_z-of_z {w = w64} c.ranges.zone, at_added at.After-add-year) at c.days_after.ensures in
+    let known = c.requires.walks.begun.is_known in
+    rw (at_days at.At-loop-j c.loop-j-test.true (answered_is said c.unwrap-days.ensures)) (record { months_bound = is.few_months; moons_len = moons_long (inputs_of at.Start) c.args.zone known _ is.are_days; zhongqi_len = zhongqi_long (inputs_of at.Start) c.args.zone known _ is.are_days })
 
 pub overflow_add-from : goal.overflow_add-from
-overflow_add-from c = record { fits = omega (arith, few (loop_of c.before.before.before.before.before.before.before), ap (λ (d : SuiDays). d.months) (at_days c.before.before.before.before.before.before.before), (days_there (loop_of c.before.before.before.before.before.before.before) (taken_of c.before.before.before.before.before.before.before)).few_months) }
-
-pub loop-j-smaller : goal.loop-j-smaller
-loop-j-smaller c = omega (arith, taken_of c.before.before.before.before.before.before.before)
+overflow_add-from c =
+    let at = goal.at.overflow_add-from c in
+    let loop = at.At-loop-j in
+    let said = rw (to_z-of_z {w = w64} c.ranges.zone, at_added at.After-add-year) at c.days_after.ensures in
+    let days = at_days loop c.loop-j-test.true (answered_is said c.unwrap-days.ensures) in
+    record { fits = omega (arith, few loop, ap (λ (d : SuiDays). d.months) days, (days_there loop c.loop-j-test.true).few_months) }
 
 pub loop-j-preserved : goal.loop-j-preserved
 unfolding days_there
 loop-j-preserved c =
-    let loop = loop_of c.before.before.before.before.before.before.before in
-    let start = loop.before in
-    let a = start.args in
+    let at = goal.at.loop-j-preserved c in
+    let loop = at.At-loop-j in
+    let i = inputs_of at.Start in
+    let a = c.args in
     let t = at_turn loop in
-    let h = taken_of c.before.before.before.before.before.before.before in
-    let is = days_there loop h in
-    let months = ap (λ (d : SuiDays). d.months) (at_days c.before.before.before.before.before.before.before) ∙ is.same_count in
-    let out = c.put_words.ensures ∙ ap (λ (l : List ℤ). placed (28 * loop.loop-j.j) l loop.loop-j.out) (at_words c.before.before.before.before.before) ∙ year_put (inputs_of start) a.zone a.first t.walks.begun.is_known a.n t.all a.out.now loop.loop-j.j h (omega (arith, h, start.requires.n_in_bounds)) t.put in
-    rw (to_z-of_z start.ranges.zone, to_z-of_z start.ranges.first, months) (record {
+    let taken = c.loop-j-test.true in
+    let is = days_there loop taken in
+    let said = rw (to_z-of_z {w = w64} c.ranges.zone, at_added at.After-add-year) at c.days_after.ensures in
+    let days = at_days loop taken (answered_is said c.unwrap-days.ensures) in
+    let months = ap (λ (d : SuiDays). d.months) days ∙ is.same_count in
+    let out = c.put_words.ensures ∙ ap (λ (l : List ℤ). placed (28 * loop.loop-j.j) l loop.loop-j.out) (c.days_words-words.ensures ∙ ap days_words days) ∙ year_put i a.zone a.first t.walks.begun.is_known a.n t.all a.out.now loop.loop-j.j taken (omega (arith, taken, c.requires.n_in_bounds)) t.put in
+    rw (to_z-of_z c.ranges.zone, to_z-of_z c.ranges.first, months) (record {
       places = t.places;
       walks = t.walks;
       is_place = t.is_place;
       all = t.all;
-      reached = reach_goes_on (inputs_of start) a.zone a.suns a.moons t.places a.first a.n t.walks.begun t.reached is.is_sui;
+      reached = reach_goes_on i a.zone a.suns a.moons t.places a.first a.n t.walks.begun t.reached is.is_sui;
       put = out;
-      in_turn = omega (arith, h);
+      in_turn = omega (arith, taken);
     })
-
-pub shape_of-out : goal.shape_of-out
-shape_of-out c = at_long c.before
 
 pub returns : goal.returns
 returns c =
