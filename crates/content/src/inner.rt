@@ -55,7 +55,7 @@ struct Walked {
 fn whole_suis(words: usize) -> bool
     ensures { result ≡ whole_suis words }
 {
-    if 0 < words % 2 {
+    if words % 2 != 0 {
         return false;
     }
     if words < 2 {
@@ -71,7 +71,7 @@ fn good_sui(due: i64, year: i64, months: i64) -> bool
     if !in_range(1700, 2500, year) {
         return false;
     }
-    if !in_range(due, due, year) {
+    if year != due {
         return false;
     }
     in_range(12, 13, months)
@@ -109,7 +109,7 @@ fn judge_month(
         return None;
     }
     let behind = add(first, size);
-    if in_range(next, next, handle) {
+    if handle == next {
         return Some(Walked {
             leaps,
             next: handle_after(year, next),
@@ -163,8 +163,7 @@ fn months_lawful<R: Records>(
         next = walked.next;
         day = walked.due;
     }
-    let lawful = signed(12 + leaps);
-    in_range(lawful, lawful, size).then_some(day)
+    (size == signed(12 + leaps)).then_some(day)
 }
 
 // Every sui and its months, one after another; and no month is left over.
@@ -212,7 +211,7 @@ pub fn is_lawful(leap: &[i64], suis: &[i64], months: &[i64]) -> bool
     if !whole_suis(suis.len()) {
         return false;
     }
-    if 0 < months.len() % 3 {
+    if months.len() % 3 != 0 {
         return false;
     }
     suis_lawful(&Lists { suis, months })

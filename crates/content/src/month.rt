@@ -17,8 +17,7 @@ fn is_handle(year: i64, leap: usize, place: usize, h: i64) -> bool
     ensures { result ≡ is_exactly (handle_at year leap place) h }
 {
     let month = month_of(year, leap, place, 0, 0);
-    let handle = month.handle;
-    in_range(handle, handle, h)
+    h == month.handle
 }
 
 // Whether h is a leap month's at a place where so many leap months came before.
@@ -27,7 +26,7 @@ pub fn leap_handle(year: i64, months: i64, leaps: usize, place: usize, h: i64) -
     requires place_bound { place < 13 }
     ensures { result ≡ leap_handle year months leaps place h }
 {
-    if !in_range(13, 13, months) {
+    if months != 13 {
         return false;
     }
     if 0 < leaps {
@@ -45,8 +44,7 @@ pub fn handle_after(year: i64, h: i64) -> i64
     requires within_2 { Within 1000000 h }
     ensures { result ≡ handle_after year h }
 {
-    let twelfth = 32 * year + 24;
-    if in_range(twelfth, twelfth, h) {
+    if h == 32 * year + 24 {
         return subtract(h, 22);
     }
     add(h, 2)
@@ -57,7 +55,7 @@ pub fn good_days(due: i64, first: i64, size: i64) -> bool
     requires { Within 1000000 due }
     ensures { result ≡ days_after due first size }
 {
-    if !in_range(due, due, first) {
+    if first != due {
         return false;
     }
     if !in_range(29, 30, size) {

@@ -143,7 +143,7 @@ fn entry_used(leap: &[i64], t: Tai) -> usize
 {
     let mut low: usize = 0;
     let mut high = leap.len() / 2;
-    // Kept: a bisection by hand, since the table is one flat list of pairs, as C lends it, and `partition_point` needs a slice of entries.
+    // Kept: `as_chunks::<2>()` gives the pairs, but `partition_point` requires that its test may be called with any pair, and `moment_of` requires one of a lawful table.
     while low + 1 < high {
         let middle = low + (high - low) / 2;
         if holds(leap, t, middle) {

@@ -1,33 +1,17 @@
 -- How large what the leaves answer can be, as rules to list beside `bounds`. Assumes nothing.
 use mathlib.Core.List.{[], ◌∷◌}
-use Prim.Native.Nat.{ℕ, ◌+◌, ◌*◌, ◌^◌, ◌/◌, ◌≤◌, ◌<◌}
+use Prim.Native.Nat.{ℕ, ◌+◌, ◌*◌, ◌/◌, ◌≤◌, ◌<◌}
 use native.Mathlib.Omega.{arith}
 use native.Mathlib.Nat.{div-lt_iff_lt-mul, div-le_of_le-mul, mul-le-mul}
-use lib.IntN.{ℤ, pos, negsuc, neg_ℤ, nat_abs, ◌-ℤ◌, ◌*ℤ◌}
-use lib.Signed.{◌≤ℤ◌, ◌<ℤ◌, mag}
-use mir.Syntax.{w64}
-use mir.Val.{SFits}
-use Rattle.whole.specs.Parts.{ℤ_rules, parts_add}
-use Rattle.whole.specs.Laws.{abs-*, abs--, abs_of_nonneg, →abs}
+use lib.IntN.{ℤ, pos, negsuc, nat_abs, ◌*ℤ◌}
+use lib.Signed.{◌≤ℤ◌, ◌<ℤ◌}
+use Rattle.whole.specs.Laws.{abs-*}
 use Rattle.whole.specs.Solver.{⇑, ⇓, ring}
 use Rattle.whole.specs.Floor.{floor_div}
-use Rattle.whole.specs.Ranges.{Within, Bound, fits<, bound_add, bound_pos, bound_neg}
+use Rattle.whole.specs.Ranges.{Within, Bound}
 use Rattle.guess.specs.Sizes.{Raised, Doubled}
 
 -- ---- a number kept in a range
-pub negated_fits : {a : ℤ} → SFits w64 a → pos 0 ≤ℤ a → SFits w64 (pos 0 -ℤ a)
-negated_fits {a} f h = go a f.sfits h
-  where
-    go : (a : ℤ) → mag a < 2 ^ 63 → pos 0 ≤ℤ a → SFits w64 (pos 0 -ℤ a)
-    go (pos n) l h = fits< (bound_add (bound_pos 0) (bound_neg (bound_pos n))) (omega arith)
-    go (negsuc n) l h = absurd h.le
-
-pub within_ends : {most a : ℤ} → pos 0 ≤ℤ most → (pos 0 -ℤ most) ≤ℤ a → a ≤ℤ most → Within (nat_abs most) a
-within_ends {most} {a} h l k = record { within = →abs {z = a} (nat_abs most) (rw (abs_of_nonneg h) (omega (ℤ_rules, parts_add (pos 0) (neg_ℤ most)))) (rw (abs_of_nonneg h) k) }
-
-pub within_least : (most : ℤ) → Within (nat_abs most) (pos 0 -ℤ most)
-within_least most = record { within = omega (arith, abs-- (pos 0) most) }
-
 abbrev pub bound_raised : {least a r : ℤ} → Raised least a r → Bound least → Bound a → Bound r
 bound_raised {least} {a} {r} h x y = record { bound = x.bound + y.bound; holds = omega (arith, h.small, x.holds, y.holds) }
 

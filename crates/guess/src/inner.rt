@@ -10,18 +10,14 @@ fn at_most(most: i64, a: i64) -> i64
     requires { pos 0 ≤ℤ most }
     ensures { Within (nat_abs most) result }
 {
-    let least = 0 - most;
-    if a < least {
-        return least;
-    }
-    if most < a { most } else { a }
+    a.clamp(-most, most)
 }
 
 // a, or what it must at least be.
 fn at_least(least: i64, a: i64) -> i64
     ensures { Raised least a result }
 {
-    if a < least { least } else { a }
+    a.max(least)
 }
 
 // a, or the nearer of the first and the last.
@@ -29,10 +25,7 @@ fn between(first: i64, last: i64, a: i64) -> i64
     requires { first ≤ℤ last }
     ensures { Between first last result }
 {
-    if a < first {
-        return first;
-    }
-    if last < a { last } else { a }
+    a.clamp(first, last)
 }
 
 // ---- a segment

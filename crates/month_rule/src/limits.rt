@@ -6,10 +6,7 @@ ghost use Rattle.months.specs.Limits.{year_in_range, rising, day_in_range, in_ra
 pub fn year_in_range(year: i64) -> bool
     ensures { result ≡ year_in_range year }
 {
-    if year < 1700 {
-        return false;
-    }
-    year <= 2500
+    (1700..=2500).contains(&year)
 }
 
 // Whether each day lies after the one before it.
@@ -23,10 +20,7 @@ pub fn rising(days: &[i64]) -> bool
 pub fn day_in_range(day: i64) -> bool
     ensures { result ≡ day_in_range day }
 {
-    if day < -200000 {
-        return false;
-    }
-    day <= 200000
+    (-200000..=200000).contains(&day)
 }
 
 pub fn in_range(days: &[i64]) -> bool

@@ -67,18 +67,13 @@ pub fn without(days: SuiDays, place: usize) -> bool
     zhongqi_in(first, next, days.zhongqi) == 0
 }
 
-// The place of the first month without a zhongqi, of thirteen: one has none (`thirteen_months_one_without`), so the search asks for no end.
+// The place of the first month without a zhongqi, of thirteen: one has none (`thirteen_months_one_without`), so one is found.
 pub fn first_without(days: SuiDays) -> usize
     requires sui_days { IsSuiDays days }
     requires months_value { days.months ≡ 13 }
     ensures { result ≡ first_without days }
 {
-    let mut i: usize = 0;
-    // Kept: the search has no end to count up to; a `find` would need an answer for where it finds none, which no call gives.
-    while !without(days, i) {
-        i += 1;
-    }
-    i
+    (0..13).find(|place| without(days, *place)).unwrap()
 }
 
 // The place of the leap month; the number of months where there is none.
@@ -98,10 +93,7 @@ pub fn leap_month(days: SuiDays) -> usize
 pub fn bad_length(n: i64) -> bool
     ensures { result ≡ not (good_length n) }
 {
-    if n < 29 {
-        return true;
-    }
-    30 < n
+    !(29..=30).contains(&n)
 }
 
 // Whether the month at a place is not 29 or 30 days long.

@@ -11,22 +11,6 @@ use served::{Served, Side};
 use std::io;
 use times::Second;
 
-fn no_bytes() -> [u8; 720]
-    ensures { 720 ≡ length result }
-{
-    [0; 720]
-}
-
-fn no_words() -> [i64; 90]
-    ensures { 90 ≡ length result }
-{
-    [0; 90]
-}
-
-fn print(rt: &impl Print, n: i64) -> io::Result<()> {
-    print!(rt; "{n}")
-}
-
 fn print_answer(rt: &impl Print, answer: Result<Served, Refusal>) -> io::Result<()> {
     match answer {
         Ok(served) => match served.side {
@@ -39,8 +23,7 @@ fn print_answer(rt: &impl Print, answer: Result<Served, Refusal>) -> io::Result<
 
 fn print_words(rt: &impl Print, words: &[i64]) -> io::Result<()> {
     for word in words {
-        print!(rt; " ")?;
-        print(rt, *word)?;
+        print!(rt; " {word}")?;
     }
     println!(rt)
 }
@@ -109,12 +92,12 @@ fn one_case(rt: &impl Print, case: &[i64]) -> io::Result<()>
 
 fn main(rt: HostRuntime) -> io::Result<()> {
     for _ in 0..1000 {
-        let mut input = no_bytes();
+        let mut input = [0; 720];
         let n = outside::read_full(&mut rt.stdin(), &mut input)?;
         if n != 720 {
             return Ok(());
         }
-        let mut words = no_words();
+        let mut words = [0; 90];
         words::inner::read_words(&input, 90, &mut words);
         one_case(&rt, &words)?;
     }

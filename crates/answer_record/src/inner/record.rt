@@ -178,7 +178,7 @@ fn refused(r: Refusal) -> [i64; 9]
     requires { refusal_segment r < 2 ^ 63 }
     ensures { result ≡ record_of (refusal r) no_numbers }
 {
-    let number = signed(r.number() as usize);
+    let number = i64::from(r.number());
     let segment = signed(r.segment());
     [number, segment, 0, 0, 0, 0, 0, 0, 0]
 }

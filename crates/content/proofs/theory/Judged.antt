@@ -6,19 +6,40 @@ use Rattle.std.proofs.Math.Bool.{true, false}
 use mathlib.Core.List.{List, [], ◌∷◌}
 use native.Mathlib.Omega.{arith}
 use Rattle.std.proofs.Math.Decide.{dec_lt}
-use borrow.Author.Tests.{eq-eqb, ne_eqb, le-leb, lt-leb}
+use borrow.Author.Tests.{eq-eqb, ne_eqb, eqb-true, eqb-false, le-leb, lt-leb}
 use Rattle.std.proofs.Math.IntN.{pos}
 use Rattle.whole.specs.Solver.{⇑, ⇓, ring}
 use Rattle.whole.specs.Booleans.{both, none_of, first_holds, second_decides}
 use Rattle.whole.specs.Floor.{floor_mod}
 use Rattle.whole.proofs.Floor.{floor_mod_unique}
-use Rattle.whole.specs.Ranges.{Within}
+use mir.Syntax.{w64}
+use mir.Val.{SFits, of_z}
+use Rattle.whole.specs.Ranges.{Within, of_z_inj}
 use Rattle.whole.specs.Tests.{in_range, is_exactly, in_range_says, exactly_says, says_exactly}
 use Rattle.dates.specs.Answers.{has_date}
 use Rattle.months.specs.Handles.{ordinal, handle, handle_at}
 use Rattle.months.proofs.theory.Numbering.{before_leap, from_leap, at_leap, not_at_leap}
 use Rattle.content.specs.Content.{month_at, good_handle, good_start}
 use Rattle.content.specs.Steps.{sui_after, days_after, ordinary, handle_after, leap_handle, walked_on}
+
+-- ---- a comparison by `==`, which is one of bits
+module _ (wanted z : ℤ) where
+  pub same_bits : SFits w64 wanted → SFits w64 z → of_z w64 z ≡ of_z w64 wanted → is_exactly wanted z ≡ true
+  same_bits f g e = says_exactly wanted z (of_z_inj g f e)
+
+  pub other_bits : (of_z w64 z ≡ of_z w64 wanted → ⊥) → is_exactly wanted z ≡ false
+  other_bits n = go (is_exactly wanted z) refl
+    where
+      go : (b : Bool) → is_exactly wanted z ≡ b → b ≡ false
+      go true e = absurd (n (ap (of_z w64) (exactly_says wanted z e)))
+      go false e = refl
+
+  pub by_bits : SFits w64 wanted → SFits w64 z → eqb (of_z w64 z) (of_z w64 wanted) ≡ is_exactly wanted z
+  by_bits f g = go (eqb (of_z w64 z) (of_z w64 wanted)) refl
+    where
+      go : (b : Bool) → eqb (of_z w64 z) (of_z w64 wanted) ≡ b → b ≡ is_exactly wanted z
+      go true e = sym (same_bits f g (eqb-true _ _ e))
+      go false e = sym (other_bits (λ q. eqb-false _ _ e q))
 
 -- ---- a sui
 module _ (due year count : ℤ) where

@@ -221,8 +221,8 @@ module _ (suis months : List ℤ) where
       go false e = sym e
 
   -- a month lacks words
-  pub month_cut : 0 < length months % 3 → false ≡ suis_lawful suis months
-  month_cut h = unlawful (λ e. omega (arith, (parts e).1.0))
+  pub month_cut : (length months % 3 ≡ 0 → ⊥) → false ≡ suis_lawful suis months
+  month_cut h = unlawful (λ e. h (omega (arith, (parts e).1.0)))
 
   module _ (some : 1 ≤ length suis / 2) where
     first_sui : suis_lawful suis months ≡ true → good_sui suis 0 ≡ true

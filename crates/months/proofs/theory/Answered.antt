@@ -1,5 +1,5 @@
 -- From the verdicts of the parts to that of the month rule; and that a result can say each of them. Assumes nothing.
-use Rattle.std.specs.Prelude.{◌≡◌, refl, Bool, true, false, not, List, ℕ, ltb, ℤ, Result, Ok, Err}
+use Rattle.std.specs.Prelude.{◌≡◌, refl, Bool, true, false, not, List, ltb, ℤ, Result, Ok, Err}
 use Rattle.refusals.specs.declared.Refusal.{Refusal}
 use Rattle.refusals.specs.declared.Refusal.TheVariants.{NoSui, MonthCount, MonthLength}
 use Rattle.refusals.specs.Verdict.{Verdict, answered, refused, refusal, refuse_when, ◌before◌, ◌then◌, paper}

@@ -7,11 +7,11 @@ use mathlib.Core.List.{List, [], ◌∷◌}
 use borrow.Author.Tests.{le-leb, lt-leb, eq-eqb, ne_eqb, eqb-true}
 use Rattle.std.proofs.Math.ListN.{length, get_or}
 use Rattle.std.proofs.Math.Seq.{drop-cons}
-use Rattle.std.specs.Int.Signed.{le_z, lt_z}
+use Rattle.std.specs.Int.Signed.{le_z}
 use Rattle.whole.specs.Booleans.{both}
 use Rattle.whole.specs.Parts.{◌⩽◌}
 use Rattle.whole.specs.Ranges.{Within, All}
-use Rattle.whole.specs.Solver.{⇑, ⇓, ring, lt_yes, lt_no, le_yes, le_no, yes_lt, no_lt, yes_le, no_le}
+use Rattle.whole.specs.Solver.{⇑, ⇓, ring, le_yes, le_no, yes_lt, no_lt}
 use Rattle.months.specs.Limits.{year_in_range, rising, day_in_range, in_range, days_kept, lists_kept}
 
 -- ---- a conjunction, told from the left
@@ -20,14 +20,6 @@ first_fails a b e = rw e
 
 pub first_passes : (a b x : Bool) → a ≡ true → x ≡ b → x ≡ (a && b)
 first_passes a b x e f = rw e f
-
--- ---- ranges
-module _ (low high z : ℤ) where
-  pub below : lt_z z low ≡ true → false ≡ (le_z low z && le_z z high)
-  below e = rw (no_le {a = low} {b = z} (lt_yes {a = z} {b = low} e))
-
-  pub not_below : lt_z z low ≡ false → le_z z high ≡ (le_z low z && le_z z high)
-  not_below e = rw (yes_le {a = low} {b = z} (lt_no {a = z} {b = low} e))
 
 -- ---- days that rise
 module _ (days : List ℤ) (i : ℕ) where

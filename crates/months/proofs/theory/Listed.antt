@@ -1,6 +1,6 @@
 -- What a loop over days has counted and judged, turn by turn. Assumes nothing.
 use Rattle.std.proofs.Math.Path.{◌≡◌, refl}
-use Rattle.std.specs.Prelude.{Bool, not, ◌||◌, List, ℕ, ◌+◌, ◌≤◌, ◌<◌, ℤ, length, get_or, drop}
+use Rattle.std.specs.Prelude.{Bool, ◌||◌, List, ℕ, ◌+◌, ◌≤◌, ◌<◌, ℤ, length, get_or, drop}
 use Rattle.std.proofs.Math.Bool.{true, false}
 use native.Mathlib.Omega.{arith}
 use borrow.Author.Tests.{eq-eqb, ne_eqb, eqb-true, eqb-false, leb-false}
@@ -9,14 +9,7 @@ use Rattle.std.proofs.Math.IntN.{pos}
 use Rattle.std.specs.Int.Signed.{le_z, lt_z}
 use Rattle.whole.specs.Solver.{lt_yes, lt_no, yes_le, no_le}
 use Rattle.whole.specs.Counted.{one, count_turn, count_end, count_small}
-use Rattle.months.specs.Months.{not_after, is_within, zhongqi_in, is_missing, twelve_or_thirteen, good_length}
-
-lt_not_le : (a b : ℤ) → lt_z a b ≡ not (le_z b a)
-lt_not_le a b = go (lt_z a b) refl
-  where
-    go : (t : Bool) → lt_z a b ≡ t → t ≡ not (le_z b a)
-    go true e = rw (no_le {a = b} {b = a} (lt_yes {a = a} {b = b} e))
-    go false e = rw (yes_le {a = b} {b = a} (lt_no {a = a} {b = b} e))
+use Rattle.months.specs.Months.{not_after, is_within, zhongqi_in, is_missing, twelve_or_thirteen}
 
 -- ---- days not after a day
 module _ (day : ℤ) (days : List ℤ) where
@@ -90,13 +83,3 @@ module _ (first next day : ℤ) where
   pub within_late : lt_z day first ≡ false → lt_z day next ≡ false → 0 ≡ one (is_within first next day)
   unfolding is_within
   within_late e f = rw (yes_le {a = first} {b = day} (lt_no {a = day} {b = first} e), f)
-
--- ---- the length of a month
-module _ (n : ℤ) where
-  pub too_short : lt_z n (pos 29) ≡ true → true ≡ not (good_length n)
-  unfolding good_length
-  too_short e = rw (no_le {a = pos 29} {b = n} (lt_yes {a = n} {b = pos 29} e))
-
-  pub long_enough : lt_z n (pos 29) ≡ false → lt_z (pos 30) n ≡ not (good_length n)
-  unfolding good_length
-  long_enough e = rw (yes_le {a = pos 29} {b = n} (lt_no {a = n} {b = pos 29} e)) (lt_not_le (pos 30) n)

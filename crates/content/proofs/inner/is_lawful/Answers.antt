@@ -24,11 +24,11 @@ returns-then-not-whole_suis c =
     let a = c.args in
     suis_broken a.leap.now a.suis.now a.months.now (table (goal.at.returns-then-not-whole_suis c).After-whole_suis) (sym c.whole_suis.ensures ∙ c.if-not-whole_suis.true)
 
-pub returns-then-months-gt0 : goal.returns-then-months-gt0
-returns-then-months-gt0 c =
+pub returns-then-months-ne0 : goal.returns-then-months-ne0
+returns-then-months-ne0 c =
     let a = c.args in
-    let suis = whole (goal.at.returns-then-months-gt0 c).Else-not-whole_suis in
-    month_cut a.suis.now a.months.now c.if-months-gt0.true ∙ suis_decide a.leap.now a.suis.now a.months.now (table (goal.at.returns-then-months-gt0 c).After-whole_suis) suis
+    let suis = whole (goal.at.returns-then-months-ne0 c).Else-not-whole_suis in
+    month_cut a.suis.now a.months.now c.if-months-ne0.true ∙ suis_decide a.leap.now a.suis.now a.months.now (table (goal.at.returns-then-months-ne0 c).After-whole_suis) suis
 
 pub suis_lawful-requires-clause-some : goal.suis_lawful-requires-clause-some
 suis_lawful-requires-clause-some c = (whole_some (length c.args.suis.now) (whole (goal.at.suis_lawful-requires-clause-some c).Else-not-whole_suis)).0

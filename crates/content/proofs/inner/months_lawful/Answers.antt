@@ -12,10 +12,13 @@ use Rattle.std.specs.Prelude.{Option, is_some, IfSome, ℤ}
 use Rattle.whole.specs.Parts.{→≤}
 use Rattle.whole.specs.Laws.{≤_trans}
 use Rattle.whole.specs.Solver.{⇑, ⇓, ring}
+use lib.Dec.{eqb}
 use Rattle.whole.specs.Ranges.{back}
+use Rattle.whole.specs.Tests.{is_exactly}
 use Rattle.content.specs.Content.{month_at}
 use Rattle.content.specs.Steps.{ordinary, walked_on}
 use Rattle.content.specs.theory.Walk.{Due}
+use Rattle.content.proofs.theory.Judged.{by_bits}
 use Rattle.content.proofs.theory.Walk.{told_by, MonthsSoFar, no_month_yet, month_next, month_stops, leaps_decide}
 use Rattle.content.proofs.inner.months_lawful.Given as given
 use Rattle.content.proofs.inner.months_lawful.Goals as goal
@@ -94,8 +97,8 @@ loop-place-preserved g c =
 pub overflow_add-leaps : goal.overflow_add-leaps
 overflow_add-leaps g c = record { fits = omega (arith, (so_far g (goal.at.overflow_add-leaps g c).At-loop-place).at_most, (so_far g (goal.at.overflow_add-leaps g c).At-loop-place).few, counted g (goal.at.overflow_add-leaps g c).After-count-last, at_most_13 g (goal.at.overflow_add-leaps g c).After-count-last) }
 
-pub signed-lawful-requires : goal.signed-lawful-requires
-signed-lawful-requires g c = omega (arith, (so_far g (goal.at.signed-lawful-requires g c).At-loop-place).at_most, (so_far g (goal.at.signed-lawful-requires g c).At-loop-place).few, counted g (goal.at.signed-lawful-requires g c).After-count-last, at_most_13 g (goal.at.signed-lawful-requires g c).After-count-last)
+pub signed-requires : goal.signed-requires
+signed-requires g c = omega (arith, (so_far g (goal.at.signed-requires g c).At-loop-place).at_most, (so_far g (goal.at.signed-requires g c).At-loop-place).few, counted g (goal.at.signed-requires g c).After-count-last, at_most_13 g (goal.at.signed-requires g c).After-count-last)
 
 pub returns : goal.returns
 returns g c =
@@ -103,7 +106,7 @@ returns g c =
     let fs = c.ranges.size in
     let all : c.loop-place.place ≡ nat_abs a.size = omega (arith, c.loop-place-test.false, (so_far g (goal.at.returns g c).At-loop-place).few, counted g (goal.at.returns g c).After-count-last) in
     let end = subst (λ (p : ℕ). MonthsSoFar (g.R.Records.months a.records.now) a.year a.size a.from p c.loop-place.leaps c.loop-place.next c.loop-place.day) all (so_far g (goal.at.returns g c).At-loop-place) in
-    let judged = (rw (back c.signed-lawful.result c.signed-lawful.type_inv, c.signed-lawful.ensures, to_z-of_z fs) at c.in_range.ensures) ∙ leaps_decide (g.R.Records.months a.records.now) a.year a.size a.from c.loop-place.leaps _ _ end in
-    let told = told_by (λ (day : ℤ). Due (g.R.Records.months a.records.now) (a.from + nat_abs a.size) day) c.in_range.result c.loop-place.day end.due in
+    let judged = by_bits c.signed.result a.size (record { sfits = c.signed.type_inv }) fs ∙ ap (λ (lawful : ℤ). is_exactly lawful a.size) c.signed.ensures ∙ leaps_decide (g.R.Records.months a.records.now) a.year a.size a.from c.loop-place.leaps _ _ end in
+    let told = told_by (λ (day : ℤ). Due (g.R.Records.months a.records.now) (a.from + nat_abs a.size) day) (eqb (of_z w64 a.size) (of_z w64 c.signed.result)) c.loop-place.day end.due in
     let is = rw c.loop-place.day-is at c.then_some.ensures in
     record { good_value = ap is_some is ∙ told.0 ∙ judged; due_2 = subst (λ (r : Option ℤ). IfSome r (λ (day : ℤ). Due (g.R.Records.months a.records.now) (a.from + nat_abs a.size) day)) (sym is) told.1 }

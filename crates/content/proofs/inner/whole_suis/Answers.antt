@@ -9,11 +9,11 @@ use Rattle.whole.specs.Booleans.{first_fails, second_fails}
 use Rattle.content.specs.Content.{whole_suis}
 use Rattle.content.proofs.inner.whole_suis.Goals as goal
 
-pub returns-then-words-gt0 : goal.returns-then-words-gt0
+pub returns-then-words-ne0 : goal.returns-then-words-ne0
 unfolding whole_suis
-returns-then-words-gt0 c =
+returns-then-words-ne0 c =
     let n = c.args.words in
-    sym (first_fails (eqb (n % 2) 0) (leb 2 n && leb n 256) (ne_eqb (n % 2) 0 (λ q. omega arith)))
+    sym (first_fails (eqb (n % 2) 0) (leb 2 n && leb n 256) (ne_eqb (n % 2) 0 c.if-words-ne0.true))
 
 pub returns-then-words-lt2 : goal.returns-then-words-lt2
 unfolding whole_suis
