@@ -5,5 +5,5 @@
 use std::io;
 
 fn main(rt: HostRuntime) -> io::Result<()> {
-    outside::each_file(&rt, |rt, file| list_run::list_from(rt, file))
+    outside::inner::each_file(&rt, |rt, file| list_run::list_from(rt, file))
 }

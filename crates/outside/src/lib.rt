@@ -9,6 +9,7 @@ use std::io::{Error, ErrorKind, Read};
 use std::rt::{Env, Files};
 use std::{io, str};
 
+pub mod inner;
 pub mod third;
 
 // Reads until the room is full or the input ends, and says how many bytes stand at its front.
@@ -64,26 +65,4 @@ pub fn open_argument<R: Env + Files>(rt: &R, i: usize) -> io::Result<R::File> {
         Ok(name) => File::open(rt, name),
         Err(_) => Err(Error::from(ErrorKind::InvalidInput)),
     }
-}
-
-// Goes over the files that the arguments name, each under its name: `run` is given one after another.
-pub fn each_file<R: Env + Files + Print, F: FnMut(&R, &mut R::File) -> io::Result<()>>(
-    rt: &R,
-    mut run: F,
-) -> io::Result<()>
-    requires { F.IsAlwaysCallable run }
-{
-    for i in 1..usize::MAX {
-        if !has_argument(rt, i) {
-            break;
-        }
-        print!(rt; "# ")?;
-        print_argument(rt, i)?;
-        println!(rt)?;
-        match open_argument(rt, i) {
-            Err(_) => println!(rt; "cannot be read")?,
-            Ok(mut file) => run(rt, &mut file)?,
-        }
-    }
-    Ok(())
 }

@@ -5,7 +5,7 @@
 use std::io;
 
 fn main(rt: HostRuntime) -> io::Result<()> {
-    outside::each_file(&rt, |rt, text| {
+    outside::inner::each_file(&rt, |rt, text| {
         pack_run::pack_from(rt, text)?;
         println!(rt)
     })

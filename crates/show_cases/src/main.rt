@@ -5,5 +5,5 @@
 use std::io;
 
 fn main(rt: HostRuntime) -> io::Result<()> {
-    outside::each_file(&rt, |rt, file| show_run::show_from(rt, file))
+    outside::inner::each_file(&rt, |rt, file| show_run::show_from(rt, file))
 }

@@ -120,5 +120,5 @@ fn print_input<I: Read>(rt: &impl Print, from: &mut I) -> io::Result<()> {
 }
 
 fn main(rt: HostRuntime) -> io::Result<()> {
-    outside::each_file(&rt, |rt, file| print_input(rt, file))
+    outside::inner::each_file(&rt, |rt, file| print_input(rt, file))
 }
