@@ -4,3 +4,4 @@ pub mod Fits
 pub mod Theorems
 pub mod Examples
 pub mod Said
+pub mod Sayable

@@ -44,10 +44,10 @@ pub trait Records {
 
 // Where a walk over the months of a sui stands, all so far being good: how many of them are leap months, the handle of the next ordinary one, and the day on which the next must begin.
 #[derive(Clone, Copy)]
-struct Walked {
-    leaps: usize,
-    next: i64,
-    due: i64,
+pub struct Walked {
+    pub leaps: usize,
+    pub next: i64,
+    pub due: i64,
 }
 
 // 1 to 128 suis in whole records, by the number of words.

@@ -35,6 +35,10 @@ pub ◌and◌ : {n : ℕ} {u v : Verdict (Unit {0})} → Below n u → Below n v
 pub refused_below : {n number segment : ℕ} {v : Verdict (Unit {0})} → Below n v → v ≡ refused number segment → segment < n
 refused_below {n} h e = rw e at h.below
 
+pub shifted_below : {n m : ℕ} {v : Verdict (Unit {0})} (from : ℕ) → Below n v → from + n ≤ m → Below m (shifted_by from v)
+shifted_below {v = answered a} from h l = record { below = tt }
+shifted_below {v = refused number segment} from h l = record { below = omega (arith, h.below) }
+
 pub first_bad_below : (number : ℕ) (bad : ℕ → Bool) (n k m : ℕ) → k + m ≤ n → Below n (first_bad number bad k m)
 unfolding first_bad
 first_bad_below number bad n k zero h = record { below = tt }
